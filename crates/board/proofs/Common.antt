@@ -1,7 +1,7 @@
 -- The words of other modules that the proofs of this crate use.
 pub use Rattle.atomic_table.specs.Table.{Me}
 pub use Rattle.atomic_table.specs.declared.shared.Seat.{Seat}
-pub use Rattle.board.specs.{AreFit, Entries, IsReady, is_empty, steps_for, steps_in, submits_of, EndsWith, FoundHeld, Goes, HasLooked, IsHeld, IsPresent, IsUnheld, IsWord, KeepsFreed, LastAt, MayStart, Stands, Stepped, next_of, AreFree, HasLookedAt, IsQueue, IsOver, IsSpot, KnowsChains, LinkedAreReaped, RefusesRoom, SameQueue, WereReaped, continues, nth, AreSubmitters, AreWorkers, IsCutting, IsFresh, AllTell, AreLater, AreOf, BeginsWith, IsListed, IsReport, IsSeen, Ordered, SawOwnLines, Tells, ended, IsNextCell, IsPollerSeat, IsSubmitterSeat, KnowsCell, KnowsCells, are_capacities, are_rings, counts, is_ring, is_shape, widest, ArmTells, Arms, CountingTells, Counts, DidStrike, EndsFired, Expires, ExpiryTells, FailsAs, Fires, FiresDue, HasFewer, IsArmed, IsArmedAt, IsBarred, IsCounting, IsDueLinked, IsEarly, IsHeldTimer, IsNoTimer, IsShutTimer, IsTargetOpen, IsUnarmed, IsUncounted, IsUnfired, Settles, SettlingTells, TellsDeadline, TellsReply, armed_by, counted_by, expired_by, fired_by, settled_by, struck_by}
+pub use Rattle.board.specs.{AreFit, Entries, IsReady, is_empty, steps_for, steps_in, submits_of, EndsWith, FoundHeld, Goes, HasLooked, IsHeld, IsPresent, IsUnheld, IsWord, KeepsFreed, LastAt, MayStart, Stands, Stepped, next_of, AreFree, HasLookedAt, IsQueue, IsOver, IsCellOf, KnowsChains, LinkedAreReaped, RefusesRoom, SameQueue, WereReaped, continues, nth, AreSubmitters, AreWorkers, IsCutting, IsFresh, AllTell, AreLater, AreOf, BeginsWith, IsListed, IsReport, IsSeen, Ordered, SawOwnLines, Tells, ended, IsNextCell, IsPollerSeat, IsSubmitterSeat, KnowsCell, KnowsCells, are_capacities, are_rings, counts, is_ring, is_shape, widest, ArmTells, Arms, CountingTells, Counts, DidStrike, EndsFired, Expires, ExpiryTells, FailsAs, Fires, FiresDue, HasFewer, IsArmed, IsArmedAt, IsBarred, IsCounting, IsDueLinked, IsEarly, IsHeldTimer, IsNoTimer, IsShutTimer, IsTargetOpen, IsUnarmed, IsUncounted, IsUnfired, Settles, SettlingTells, TellsDeadline, TellsReply, armed_by, counted_by, expired_by, fired_by, settled_by, struck_by}
 pub use Rattle.board.specs.PollerRows.{Advances, Decided, Decides, Found, FoundPending, Gated, HasOutcome, IsAt, IsBlocked, IsNextLook, IsNumbered, IsOurs, IsShutOut, IsSubmitted, IsUnended, KnowsRow, KnowsRows, MayArm, Notes, Paid, Spends, StepsTo, TellsOutcome, WasHeld, Watched, Watches, costs_of, is_plain, looks_of, owed, owed_back, severed_by, spared_by, steps_elsewhere}
 pub use Rattle.board.specs.PollerTimers.{IsAlarm, IsKept, IsTimerAs, KnowsAlarm, KnowsTimers, looks_at, looks_for_count}
 pub use Rattle.board.specs.LastCells.{AreEarlier, AreLines, AreTaken, Closing, IsCutOrNot, IsEmptied, IsLeft, IsLine, IsLineOf, IsReplyOf, Reports, Rests, data_left, full_slots, hearing_all, told_by}
@@ -27,7 +27,7 @@ pub use Rattle.gates.proofs.TrailLaws.{gone_on_stays, lost_replied, met_trails, 
 pub use Rattle.gates.specs.{Kept, Waits, added, slot_with, stand_in, stand_ins, waiting, waiting_in, with_reply, ArePlain, HasNotSevered, HaveGoneOn, IsLink, IsOfChain, IsOutcome, IsPlainAt, IsTargetOf, StandsIn, TrailedAt, Trails, TrailsAt, linked_in, named_in, Slot, is_pending, passes, test_at, traits_of}
 pub use Rattle.history.proofs.Growth.{MayChange, born_once, changed, counted, may_change, replied_of_reply, reply_stays, submission_some, submission_stays, unborn_yet, unchanged}
 pub use Rattle.history.proofs.Requests.{and_left, and_right, bool_cases, not_true, same_false, same_itself, same_true}
-pub use Rattle.history.specs.{IsBefore, IsChainBefore, IsChainDone, IsChained, IsClear, IsLinkTimeout, IsPlaced, IsTarget, Open, Severed, before_in, gate_of, hosts, is_link_timeout, is_link_timeout_in, is_timeout, is_timer, joins, placed, placed_behind, placed_from, previous, Cause, IsIdle, IsPending, IsReplied, Phase, Submission, adds_to, after_reap, answers, armed, becomes, by_count, by_cut, by_expire, by_fire, by_reply, by_settle, by_sever, by_take, clock_of, concerns, data_of, fired, is_replied, later_replies, phase, reaped, replied, replies_from, reply, reply_in, runs, same, submission, submits, unborn, waits, was_shut}
+pub use Rattle.history.specs.{IsBefore, IsChainBefore, IsChainDone, IsChained, IsClear, IsLinkTimeout, IsPlaced, IsTarget, Open, Severed, before_in, gate_of, hosts, is_link_timeout, is_link_timeout_in, is_timeout, is_timer, joins, placed, placed_behind, placed_from, previous, Cause, IsIdle, IsPending, IsReplied, Phase, Submitted, adds_to, after_reap, answers, armed, becomes, by_count, by_cut, by_expire, by_fire, by_reply, by_settle, by_sever, by_take, clock_of, concerns, data_of, fired, is_replied, later_replies, phase, reaped, replied, replies_from, reply, reply_in, runs, same, submission, submits, unborn, waits, was_shut}
 pub use Rattle.history.specs.Legal.{Fits, FitsOp, IsDue, Legal, MayCome, Setup, count_of, shut_for, ticks_of}
 pub use Rattle.history.specs.declared.event.Event.{Event}
 pub use Rattle.history.specs.declared.event.Event.TheVariants.{Arm, Begin, Count, Cut, Expire, Fire, FireMiss, Miss, Park, Reap, Reply, Settle, Sever, Submit, Take, Tick}
@@ -47,11 +47,11 @@ pub use Rattle.steps.proofs.JournalGrowth.{Lasting, answers_concerns, counted_in
 pub use Rattle.steps.proofs.NotesKept.{earlier_gone, earlier_reaped, lent_out, notes_are, reaped_born}
 pub use Rattle.steps.proofs.OwnFacts.{never_asked, same_fired}
 pub use Rattle.steps.proofs.ViewsKept.{submits_after, submitter_can}
-pub use Rattle.steps.specs.{Ages, CellOk, Home, IsCell, IsParcel, Keeps, MayBegin, Says, cause_bits, cells_in, claim_at, count_at, facts_at, over, place_of, reply_bits, request_at, ring_of, setup_of, slot_at, slots_of, total, word_of, words_of, AreFacts, TellsFacts, IsFree, IsReaped, NotesTell, Orderly, event_of, events_of, freed, lends, lent, noted, stores, count_in, count_notes, etime_in, facts_of, notes_of, outcome_of, row_number, ticks_in, AllSaw, AreMade, AreSteps, Begins, Ended, Extends, ExtendsAfter, ExtendsNoted, ExtendsTwice, IsDone, IsHeard, IsOneOf, IsSameSeat, IsStep, Knows, Looks, NoneOf, Owner, Saw, Shown, Vacant, hearing, holders, idle_one, next_poller, next_submitter, nobody, owner, owns, pollers, rings, seeing, stands_for, submitter_of, without_next, without_one, workers}
+pub use Rattle.steps.specs.{Ages, CellOk, Home, IsCell, IsSubmission, Keeps, MayBegin, Says, cause_bits, cells_in, claim_at, count_at, facts_at, over, place_of, reply_bits, request_at, ring_of, setup_of, slot_at, slots_of, total, word_of, words_of, AreFacts, TellsFacts, IsFree, IsReaped, NotesTell, Orderly, event_of, events_of, freed, lends, lent, noted, stores, count_in, count_notes, etime_in, facts_of, notes_of, outcome_of, row_number, ticks_in, AllSaw, AreMade, AreSteps, Begins, Ended, Extends, ExtendsAfter, ExtendsNoted, ExtendsTwice, IsDone, IsHeard, IsOneOf, IsSameSeat, IsStep, Knows, Looks, NoneOf, Owner, Saw, Shown, Vacant, hearing, holders, idle_one, next_poller, next_submitter, nobody, owner, owns, pollers, rings, seeing, stands_for, submitter_of, without_next, without_one, workers}
 pub use Rattle.steps.specs.declared.line.Line.{Line}
 pub use Rattle.steps.specs.declared.line.Line.TheVariants.{Did, Free, Freed, Hold, Lent, Noted}
-pub use Rattle.steps.specs.declared.parcel.Thing.{Thing}
-pub use Rattle.steps.specs.declared.parcel.Thing.TheVariants.{Full}
+pub use Rattle.steps.specs.declared.slot.Thing.{Thing}
+pub use Rattle.steps.specs.declared.slot.Thing.TheVariants.{Full}
 pub use Rattle.steps.specs.declared.view.Layout.{Layout}
 pub use Rattle.steps.specs.declared.view.Role.{Role}
 pub use Rattle.steps.specs.declared.view.Role.TheVariants.{Idle, Lending, Poller, Submitter}
@@ -63,7 +63,7 @@ pub use Rattle.work.proofs.OwnEvents.{own_append, own_before, own_none, silent_o
 pub use Rattle.work.proofs.PassesKept.{extended_of, looked_of}
 pub use Rattle.work.proofs.RunsKept.{took_both}
 pub use Rattle.work.specs.{Facts, IsBoard, IsOf, share_of, AreCellCounts, AreCells, CanReach, HasRooms, Pass, Took, own_of, pass_of, seen_of}
-pub use Rattle.work.specs.declared.grid.Spot.{Spot}
+pub use Rattle.work.specs.declared.grid.Cell.{Cell}
 pub use lib.ListN.{get_elem?, get_or-replicate, length-replicate}
 pub use mathlib.Core.Logic.{dite}
 pub use mathlib.Core.Option.{some, some-injective}

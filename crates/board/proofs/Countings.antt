@@ -64,7 +64,7 @@ module _ (b : Facts) (t : TableSeat) (q : Req) (o : IsOf b (pass_of t)) where
 -- ---- the poller goes over them
 
 -- the requests after r and before k were looked at, and of these so many have replied
-pub record Tallied (b : Facts) (s t : TableSeat) (r : Req) (k found : ℕ) : Type 0 where
+pub record IsCounted (b : Facts) (s t : TableSeat) (r : Req) (k found : ℕ) : Type 0 where
   pub watched : Watched b s t
   pub low : r.k < k
   pub high : k ≤ r.k + cells_in b.layout.cells r.ring
@@ -74,7 +74,7 @@ pub record Tallied (b : Facts) (s t : TableSeat) (r : Req) (k found : ℕ) : Typ
   pub paid : Paid s.me.0 t.me.0 0 (k - suc r.k)
   pub looks : Spends b.layout.cells r s.me.0 t.me.0 0 (k - suc r.k)
 
-module _ (b : Facts) (s t u : TableSeat) (r : Req) (k found : ℕ) (x : Tallied b s t r k found) (w : Watched b t u) where
+module _ (b : Facts) (s t u : TableSeat) (r : Req) (k found : ℕ) (x : IsCounted b s t r k found) (w : Watched b t u) where
   abbrev here : Req
   here = record { ring = r.ring; k = k }
 
@@ -89,8 +89,8 @@ module _ (b : Facts) (s t u : TableSeat) (r : Req) (k found : ℕ) (x : Tallied 
   looks_all step lt = let low = x.low in spends_most b.layout.cells r s.me.0 u.me.0 0 (n + 1) 0 (cells_in b.layout.cells r.ring - 1) (looks_more step lt) (omega arith) (omega arith)
 
   -- one more was looked at
-  pub tally_more : (replied' : Bool) → TellsReply (events_of u.me.0.seen) here (Some replied') → StepsTo b.layout.cells here t.me.0 u.me.0 → k < r.k + cells_in b.layout.cells r.ring → Tallied b s u r (k + 1) (found + flag replied')
-  tally_more replied' told step lt =
+  pub counted_more : (replied' : Bool) → TellsReply (events_of u.me.0.seen) here (Some replied') → StepsTo b.layout.cells here t.me.0 u.me.0 → k < r.k + cells_in b.layout.cells r.ring → IsCounted b s u r (k + 1) (found + flag replied')
+  counted_more replied' told step lt =
       let paid = paid_one _ _ t.me.0 u.me.0 step.5 in let low = x.low in let all = watched_then b s t u x.watched w in let h = events_of s.me.0.seen in let g = events_of u.me.0.seen in let i = r.ring in let m = suc r.k in
       let next : (k + 1) - suc r.k ≡ suc n = omega arith in let at : suc r.k + n ≡ k = omega arith in
       let here_is : (f : List Event) → replies_from f i m (suc n) ≡ replies_from f i m n + flag (is_replied (phase f here)) = λ f. ap (λ (z : ℕ). replies_from f i m n + flag (is_replied (phase f (record { ring = i; k = z })))) at in
@@ -109,25 +109,25 @@ module _ (b : Facts) (s t u : TableSeat) (r : Req) (k found : ℕ) (x : Tallied 
       }
 
   -- the next wasn't submitted yet: nor were those after it
-  pub tally_unborn : (count : ℕ) → TellsReply (events_of u.me.0.seen) here None → found < count → later_replies (events_of s.me.0.seen) r < count
-  tally_unborn count told lt =
+  pub counted_unborn : (count : ℕ) → TellsReply (events_of u.me.0.seen) here None → found < count → later_replies (events_of s.me.0.seen) r < count
+  counted_unborn count told lt =
       let all = watched_then b s t u x.watched w in let h = events_of s.me.0.seen in let g = events_of u.me.0.seen in
       let few : ¬ (k < submits g r.ring) = λ born. born_once (setup_of b.layout) g here w.goes.kept.legal born told in
       let le : submits h r.ring ≤ submits g r.ring = submits_goes b (pass_of s) (pass_of u) [] r.ring all.goes in
       let z = replies_longer h r.ring (suc r.k) (submits h r.ring - suc r.k) n (omega arith) in let c = x.at_most in omega (arith, z, c, lt)
 
-module _ (b : Facts) (s t : TableSeat) (r : Req) (k found count : ℕ) (x : Tallied b s t r k found) where
-  pub tally_enough : count ≤ found → count ≤ later_replies (events_of t.me.0.seen) r
-  tally_enough le = let g = events_of t.me.0.seen in let born = x.born in let a = x.at_least in
+module _ (b : Facts) (s t : TableSeat) (r : Req) (k found count : ℕ) (x : IsCounted b s t r k found) where
+  pub counted_enough : count ≤ found → count ≤ later_replies (events_of t.me.0.seen) r
+  counted_enough le = let g = events_of t.me.0.seen in let born = x.born in let a = x.at_least in
       let z = replies_longer g r.ring (suc r.k) (k - suc r.k) (submits g r.ring - suc r.k) (omega arith) in omega (arith, le, a, z)
 
   -- all were looked at
-  pub tally_all : r.k + cells_in b.layout.cells r.ring ≤ k → submits (events_of s.me.0.seen) r.ring ≤ r.k + cells_in b.layout.cells r.ring → found < count → later_replies (events_of s.me.0.seen) r < count
-  tally_all end held lt = let h = events_of s.me.0.seen in let c = x.at_most in
+  pub counted_all : r.k + cells_in b.layout.cells r.ring ≤ k → submits (events_of s.me.0.seen) r.ring ≤ r.k + cells_in b.layout.cells r.ring → found < count → later_replies (events_of s.me.0.seen) r < count
+  counted_all end held lt = let h = events_of s.me.0.seen in let c = x.at_most in
       let z = replies_longer h r.ring (suc r.k) (submits h r.ring - suc r.k) (k - suc r.k) (omega arith) in omega (arith, z, c, lt)
 
-  pub tally_looks : Spends b.layout.cells r s.me.0 t.me.0 0 (cells_in b.layout.cells r.ring - 1)
-  tally_looks = let high = x.high in let low = x.low in spends_most b.layout.cells r s.me.0 t.me.0 0 (k - suc r.k) 0 (cells_in b.layout.cells r.ring - 1) x.looks (omega arith) (omega arith)
+  pub counted_looks : Spends b.layout.cells r s.me.0 t.me.0 0 (cells_in b.layout.cells r.ring - 1)
+  counted_looks = let high = x.high in let low = x.low in spends_most b.layout.cells r s.me.0 t.me.0 0 (k - suc r.k) 0 (cells_in b.layout.cells r.ring - 1) x.looks (omega arith) (omega arith)
 
 -- an armed timer has its cell, so no request came to that after it
 pub held_bound : (b : Facts) (s : TableSeat) (r : Req) (x g d : ℕ) → IsOurs b s → IsAt b.layout.cells x g r → phase (events_of s.me.0.seen) r ≡ armed d → submits (events_of s.me.0.seen) r.ring ≤ r.k + cells_in b.layout.cells r.ring

@@ -1,7 +1,7 @@
 -- What the parts of a facts word are, by the word, and what they say of the chain of its request.
 use Rattle.claim.specs.Facts.{Facts}
 use Rattle.steps.proofs.FactsKept.{facts_tell, packed_generation}
-use Rattle.board.proofs.Common.{Bool, Entry, Event, Invalid, IsCell, IsChainDone, IsPlaced, IsReaped, IsReplied, IsTrue, Layout, Legal, Line, List, Option, Orderly, Phase, Req, Some, Submission, ap, arith, before_in, bit, bool_cases, cond, continues, dite, events_of, facts_at, facts_of, fails, false, fits_facts, hosts, inl, inr, is_link_timeout, joins, lent, links, links_hard, links_soft, low_facts, ne_eqb, not, noted, notes_are, outcome_of, packed_facts, parts_of, parts_small, phase, placed_behind, placed_from, reaped, refl, replied, reply_in, request_at, row_small, same_facts, setup_of, submission, submission_some, submits, subst, sym, true, ℕ, ℕ_discrete, ⊎_elim, ◌%◌, ◌&&◌, ◌*◌, ◌+◌, ◌<◌, ◌==◌, ◌||◌, ◌∙◌, ◌≡◌, ◌⊎◌}
+use Rattle.board.proofs.Common.{Bool, Entry, Event, Invalid, IsCell, IsChainDone, IsPlaced, IsReaped, IsReplied, IsTrue, Layout, Legal, Line, List, Option, Orderly, Phase, Req, Some, Submitted, ap, arith, before_in, bit, bool_cases, cond, continues, dite, events_of, facts_at, facts_of, fails, false, fits_facts, hosts, inl, inr, is_link_timeout, joins, lent, links, links_hard, links_soft, low_facts, ne_eqb, not, noted, notes_are, outcome_of, packed_facts, parts_of, parts_small, phase, placed_behind, placed_from, reaped, refl, replied, reply_in, request_at, row_small, same_facts, setup_of, submission, submission_some, submits, subst, sym, true, ℕ, ℕ_discrete, ⊎_elim, ◌%◌, ◌&&◌, ◌*◌, ◌+◌, ◌<◌, ◌==◌, ◌||◌, ◌∙◌, ◌≡◌, ◌⊎◌}
 
 -- the parts of a word that are the facts of a request, with an outcome or without
 pub parts_are : (f : Facts) (g : ℕ) (d : Entry) (last : Bool) → IsTrue (fits_facts f) → g < 16777216 → packed_facts f % 8589934592 ≡ facts_of g d last % 8589934592 → (f.generation ≡ g) × (f.links_soft ≡ links_soft d) × (f.links_hard ≡ links_hard d) × (f.last ≡ last)
@@ -14,12 +14,12 @@ outcome_low : (w : ℕ) (b : Bool) → outcome_of w b % 8589934592 ≡ w % 85899
 outcome_low w b = let k : ℕ = bit b in omega arith
 
 -- placing leaves the flags
-pub placed_links : (b : Option Submission) (e : Entry) → links (placed_behind b e) ≡ links e
+pub placed_links : (b : Option Submitted) (e : Entry) → links (placed_behind b e) ≡ links e
 placed_links b e = ⊎_elim
     (λ (w : (is_link_timeout e.op && not (hosts b)) ≡ true). ap (λ z. links (cond z (record e { op = Invalid }) e)) w)
     (λ (w : (is_link_timeout e.op && not (hosts b)) ≡ false). ap (λ z. links (cond z (record e { op = Invalid }) e)) w) (bool_cases (is_link_timeout e.op && not (hosts b)))
 
-own_links : (h : _) (q : Req) (y : Submission) (d : Entry) → submission h q ≡ Some y → IsPlaced h q d → links d ≡ links y.entry
+own_links : (h : _) (q : Req) (y : Submitted) (d : Entry) → submission h q ≡ Some y → IsPlaced h q d → links d ≡ links y.entry
 own_links h q y d is p = let z : placed_behind (before_in h q) y.entry ≡ d = (let k = sym (ap (placed_from (before_in h q)) is) ∙ p in cc) in ap links (sym z) ∙ placed_links (before_in h q) y.entry
 
 -- what is known of the chain of a request by its facts: that it goes on, or that it ends, or that it is done
@@ -31,7 +31,7 @@ module _ (L : Layout) (j : List Line) (legal : Legal (setup_of L) (events_of j))
   abbrev r : Req
   r = request_at L.cells x g
 
-  told_by : (y : Submission) (d : Entry) → submission (events_of j) r ≡ Some y → IsPlaced (events_of j) r d → noted j (facts_at x) % 8589934592 ≡ facts_of g d y.last % 8589934592 → Tells (events_of j) r (continues f g)
+  told_by : (y : Submitted) (d : Entry) → submission (events_of j) r ≡ Some y → IsPlaced (events_of j) r d → noted j (facts_at x) % 8589934592 ≡ facts_of g d y.last % 8589934592 → Tells (events_of j) r (continues f g)
   told_by y d is p low =
       let z = parts_are f g d y.last fits small (ap (λ n. n % 8589934592) word ∙ low) in
       let joined : joins (submission (events_of j) r) ≡ (links y.entry && not y.last) = ap joins is in
@@ -43,7 +43,7 @@ module _ (L : Layout) (j : List Line) (legal : Legal (setup_of L) (events_of j))
 
   pub chain_told : IsReplied (phase (events_of j) r) → r.k < submits (events_of j) r.ring → (d : Entry) → IsPlaced (events_of j) r d → Tells (events_of j) r (continues f g)
   chain_told done born d p = let y = submission_some (setup_of L) (events_of j) r legal born in by_phase y.0 y.1 (phase (events_of j) r) refl done where
-    by_phase : (y : Submission) → submission (events_of j) r ≡ Some y → (q : Phase) → phase (events_of j) r ≡ q → IsReplied q → Tells (events_of j) r (continues f g)
+    by_phase : (y : Submitted) → submission (events_of j) r ≡ Some y → (q : Phase) → phase (events_of j) r ≡ q → IsReplied q → Tells (events_of j) r (continues f g)
     by_phase y is (replied c res) at k =
         let n = notes_are L (setup_of L) x inside g j legal orderly y d is p (λ z. subst IsReaped at z) in told_by y d is p (⊎_elim
         (λ (w : lent j r ≡ true). ap (λ m. m % 8589934592) (n.outcome c res at w) ∙ outcome_low (facts_of g d y.last) (fails d res))

@@ -2,7 +2,7 @@
 use Rattle.std.specs.Option.{is_some}
 use Rattle.gates.specs.Shows.{nth}
 use Rattle.history.specs.Legal.{IsOf as IsOfKind}
-use Rattle.board.proofs.Common.{Bool, Decides, Did, Entry, Event, Extends, Facts, Freed, Invalid, IsAt, IsClear, IsLinkTimeout, IsOurs, IsPlaced, IsReplied, IsStep, IsTarget, IsTargetOf, Layout, Legal, Line, List, MayArm, None, NotHeld, Op, Open, Option, Park, Released, Req, Role, Seat, Setup, Sever, Severed, Shown, Some, Submission, Tag, Thing, Timeout, View, Watched, [], ap, arith, before_in, bool_cases, by_sever, claim_at, cond, eq-eqb, events_of, extended_of, fails, fails_op, false, freed, gate_of, is_link_timeout, is_link_timeout_in, is_timeout, is_timer, lasts, length, negsuc, not, own_none, own_of, owns, pass_of, phase, placed_behind, placed_from, pollers, previous, refl, replied, request_at, same_itself, setup_of, severed_lasts, stands_for, submission, submission_some, submits, subst, sym, true, true≢false, word_of, ℕ, ⊎_elim, ◌&&◌, ◌++◌, ◌<◌, ◌==◌, ◌||◌, ◌∙◌, ◌∷◌, ◌≡◌, ◌≢◌}
+use Rattle.board.proofs.Common.{Bool, Decides, Did, Entry, Event, Extends, Facts, Freed, Invalid, IsAt, IsClear, IsLinkTimeout, IsOurs, IsPlaced, IsReplied, IsStep, IsTarget, IsTargetOf, Layout, Legal, Line, List, MayArm, None, NotHeld, Op, Open, Option, Park, Released, Req, Role, Seat, Setup, Sever, Severed, Shown, Some, Submitted, Tag, Thing, Timeout, View, Watched, [], ap, arith, before_in, bool_cases, by_sever, claim_at, cond, eq-eqb, events_of, extended_of, fails, fails_op, false, freed, gate_of, is_link_timeout, is_link_timeout_in, is_timeout, is_timer, lasts, length, negsuc, not, own_none, own_of, owns, pass_of, phase, placed_behind, placed_from, pollers, previous, refl, replied, request_at, same_itself, setup_of, severed_lasts, stands_for, submission, submission_some, submits, subst, sym, true, true≢false, word_of, ℕ, ⊎_elim, ◌&&◌, ◌++◌, ◌<◌, ◌==◌, ◌||◌, ◌∙◌, ◌∷◌, ◌≡◌, ◌≢◌}
 use Rattle.board.proofs.GoesLaws.{goes_freed}
 use Rattle.board.proofs.PassFacts.{freed_may, freed_more, same_freed}
 use Rattle.board.proofs.Standings.{unheld}
@@ -38,7 +38,7 @@ has_target h q e p is = (
       (λ (w : (q.k == 0) ≡ true). absurd (first (submission h q) refl w))
       (λ (w : (q.k == 0) ≡ false). (let n : ¬ (q.k ≡ 0) = λ z. true≢false (sym (eq-eqb q.k 0 z) ∙ w) in omega arith)) (bool_cases (q.k == 0)),
 ) where
-  first : (o : Option Submission) → submission h q ≡ o → (q.k == 0) ≡ true → ⊥
+  first : (o : Option Submitted) → submission h q ≡ o → (q.k == 0) ≡ true → ⊥
   first None s w = let z = sym (ap (placed_from (before_in h q)) s) ∙ p in cc
   first (Some x) s w = let before : before_in h q ≡ None = ap (λ b. cond b None (submission h (previous q))) w in
       let at : placed_behind None x.entry ≡ e = one_some _ _ (sym (ap (placed_from (before_in h q)) s ∙ ap (λ o. Some (placed_behind o x.entry)) before) ∙ p) in

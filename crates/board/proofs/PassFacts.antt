@@ -28,8 +28,8 @@ took_three u v w z i word a j word' b n word'' c = (
 )
 
 -- the cell of a request, by the cells that the pass knows
-pub spot_of : (b : Facts) (p : Pass) (grid : List ℕ) (x g : ℕ) (r : Req) → IsOf b p → b.layout.cells ≡ grid → request_at grid x g ≡ r → request_at p.view.layout.cells x g ≡ r
-spot_of b p grid x g r o is at = ap (λ (L : Layout). request_at L.cells x g) o.layout_is ∙ (ap (λ (K : List ℕ). request_at K x g) is ∙ at)
+pub cell_of : (b : Facts) (p : Pass) (grid : List ℕ) (x g : ℕ) (r : Req) → IsOf b p → b.layout.cells ≡ grid → request_at grid x g ≡ r → request_at p.view.layout.cells x g ≡ r
+cell_of b p grid x g r o is at = ap (λ (L : Layout). request_at L.cells x g) o.layout_is ∙ (ap (λ (K : List ℕ). request_at K x g) is ∙ at)
 
 some_cell : (K : List ℕ) → 0 < length K → AreCellCounts K → 0 < total K
 some_cell [] lt h = absurd (omega arith)

@@ -4,7 +4,7 @@ use Rattle.std.proofs.Math.Nat.{div-lt_iff_lt-mul}
 use Rattle.atomic_table.specs.Seated.{TableId}
 use Rattle.claim.specs.Facts.{Facts}
 use Rattle.board.specs.Queues.{Watched}
-use Rattle.board.proofs.Common.{Bool, Event, IsCell, IsChainDone, IsFree, IsQueue, IsOver, IsPlaced, IsReaped, IsReplied, IsSameSeat, IsSpot, IsTrue, Queue, Layout, Legal, Line, List, None, Option, Pass, Req, SameQueue, Seat, Setup, Some, Spot, Step, Stepped, Submission, Submitter, Thing, Took, View, WereReaped, [], ap, append_assoc, arith, before_in, before_it, bool_cases, cases_lt, cells_in, claim_at, cond, continues, counted, dite, eq-eqb, eqb-true, events_of, facts_at, false, fits_facts, get_or, inl, inr, joins, lasts, legal_before, length, located, ne_eqb, noted, nth, packed_facts, phase, place_of, placed_behind, placed_from, previous, reaped, reaped_as, reaped_lasts, refl, replied_lasts, request_at, ring_of, same_before, same_submits, setup_of, submission, submission_lasts, submission_some, submits, submitter_can, subst, suc, suc-mul, sym, total, true, true≢false, unborn_yet, words_of, zero, ℕ, ℕ_discrete, ⊎_elim, ◌*◌, ◌++◌, ◌+◌, ◌-◌, ◌/◌, ◌<◌, ◌==◌, ◌∙◌, ◌∷◌, ◌≡◌, ◌≤◌, ◌⊎◌}
+use Rattle.board.proofs.Common.{Bool, Event, IsCell, IsChainDone, IsFree, IsQueue, IsOver, IsPlaced, IsReaped, IsReplied, IsSameSeat, IsCellOf, IsTrue, Queue, Layout, Legal, Line, List, None, Option, Pass, Req, SameQueue, Seat, Setup, Some, Cell, Step, Stepped, Submitted, Submitter, Thing, Took, View, WereReaped, [], ap, append_assoc, arith, before_in, before_it, bool_cases, cases_lt, cells_in, claim_at, cond, continues, counted, dite, eq-eqb, eqb-true, events_of, facts_at, false, fits_facts, get_or, inl, inr, joins, lasts, legal_before, length, located, ne_eqb, noted, nth, packed_facts, phase, place_of, placed_behind, placed_from, previous, reaped, reaped_as, reaped_lasts, refl, replied_lasts, request_at, ring_of, same_before, same_submits, setup_of, submission, submission_lasts, submission_some, submits, submitter_can, subst, suc, suc-mul, sym, total, true, true≢false, unborn_yet, words_of, zero, ℕ, ℕ_discrete, ⊎_elim, ◌*◌, ◌++◌, ◌+◌, ◌-◌, ◌/◌, ◌<◌, ◌==◌, ◌∙◌, ◌∷◌, ◌≡◌, ◌≤◌, ◌⊎◌}
 use Rattle.board.proofs.FactsWords.{Tells, chain_told}
 use Rattle.board.proofs.QueuesKept.{free_by_age, queue_cell, queue_looked, reaped_by_age, walked_done}
 use Rattle.board.proofs.OwnCells.{same_default}
@@ -78,7 +78,7 @@ walk_start old a l = record { same = ((refl, refl), refl); queue = l; layout = r
 replied_counted : (s : Setup) (h : _) (q : Req) → Legal s h → IsReplied (phase h q) → q.k < submits h q.ring
 replied_counted s h q l d = counted s h q l (λ u. subst IsReplied u d)
 
-joined_some : (o : Option Submission) → joins o ≡ true → (y : Submission) × (o ≡ Some y)
+joined_some : (o : Option Submitted) → joins o ≡ true → (y : Submitted) × (o ≡ Some y)
 joined_some None e = absurd (true≢false (sym e))
 joined_some (Some y) e = (y, refl)
 
@@ -108,20 +108,20 @@ walk_looked old s t a k w same n one x =
     )
 
 -- what the facts in hand say of the request k, which has replied
-pub facts_say : (s : TableSeat) (a : Queue) (k read : ℕ) (o : Spot) (f : Facts) → IsQueue s a → IsSpot s.me.0.layout.cells a.ring k o → k < a.next → IsReplied (phase (events_of s.me.0.seen) (nth a.ring k)) → read ≡ get_or a.facts.items o.number read → IsTrue (fits_facts f) → packed_facts f ≡ read
+pub facts_say : (s : TableSeat) (a : Queue) (k read : ℕ) (o : Cell) (f : Facts) → IsQueue s a → IsCellOf s.me.0.layout.cells a.ring k o → k < a.next → IsReplied (phase (events_of s.me.0.seen) (nth a.ring k)) → read ≡ get_or a.facts.items o.number read → IsTrue (fits_facts f) → packed_facts f ≡ read
     → (continues f o.generation ≡ true → joins (submission (events_of s.me.0.seen) (nth a.ring k)) ≡ true) × (continues f o.generation ≡ false → (joins (submission (events_of s.me.0.seen) (nth a.ring k)) ≡ false) ⊎ IsChainDone (events_of s.me.0.seen) (nth a.ring k))
-facts_say s a k read o f l spot lt done at fits word =
-    let L = s.me.0.layout in let j = s.me.0.seen in let S : Setup = setup_of L in let c = queue_cell s a k o l spot in let r : Req = request_at L.cells o.cell o.generation in
-    let noted_is : read ≡ noted j (facts_at o.cell) = at ∙ (same_default a.facts.items o.number read 0 c.1 ∙ c.2.facts_are) in
-    let ring' : ring_of L.cells o.cell ≡ a.ring = ap (λ (z : Req). z.ring) spot.at in let number : r.k ≡ k = ap (λ (z : Req). z.k) spot.at in
-    let small : o.generation < 16777216 = gen_small L.cells o.cell o.generation spot.inside (subst (λ (z : ℕ × ℕ). z.0 ≤ 16777215 * cells_in L.cells z.1) (λ i. (sym number i, sym ring' i)) (let u = l.0.few in omega arith)) in
-    let done' : IsReplied (phase (events_of j) r) = subst (λ (z : Req). IsReplied (phase (events_of j) z)) (sym spot.at) done in
+facts_say s a k read o f l cell lt done at fits word =
+    let L = s.me.0.layout in let j = s.me.0.seen in let S : Setup = setup_of L in let c = queue_cell s a k o l cell in let r : Req = request_at L.cells o.index o.generation in
+    let noted_is : read ≡ noted j (facts_at o.index) = at ∙ (same_default a.facts.items o.number read 0 c.1 ∙ c.2.facts_are) in
+    let ring' : ring_of L.cells o.index ≡ a.ring = ap (λ (z : Req). z.ring) cell.at in let number : r.k ≡ k = ap (λ (z : Req). z.k) cell.at in
+    let small : o.generation < 16777216 = gen_small L.cells o.index o.generation cell.inside (subst (λ (z : ℕ × ℕ). z.0 ≤ 16777215 * cells_in L.cells z.1) (λ i. (sym number i, sym ring' i)) (let u = l.0.few in omega arith)) in
+    let done' : IsReplied (phase (events_of j) r) = subst (λ (z : Req). IsReplied (phase (events_of j) z)) (sym cell.at) done in
     let born : r.k < submits (events_of j) r.ring = replied_counted S (events_of j) r l.0.legal done' in let y = submission_some S (events_of j) r l.0.legal born in
     let p : IsPlaced (events_of j) r (placed_behind (before_in (events_of j) r) y.0.entry) = ap (placed_from (before_in (events_of j) r)) y.1 in
-    let told = chain_told L j l.0.legal l.1.orderly o.cell o.generation spot.inside small f fits (word ∙ noted_is) done' born _ p in by_value (continues f o.generation) told where
-      by_value : (b : Bool) → Tells (events_of s.me.0.seen) (request_at s.me.0.layout.cells o.cell o.generation) b → (b ≡ true → joins (submission (events_of s.me.0.seen) (nth a.ring k)) ≡ true) × (b ≡ false → (joins (submission (events_of s.me.0.seen) (nth a.ring k)) ≡ false) ⊎ IsChainDone (events_of s.me.0.seen) (nth a.ring k))
-      by_value true t = (λ _. subst (λ (q : Req). joins (submission (events_of s.me.0.seen) q) ≡ true) spot.at t, λ e. absurd (true≢false e))
-      by_value false t = (λ e. absurd (true≢false (sym e)), λ _. subst (λ (q : Req). (joins (submission (events_of s.me.0.seen) q) ≡ false) ⊎ IsChainDone (events_of s.me.0.seen) q) spot.at t)
+    let told = chain_told L j l.0.legal l.1.orderly o.index o.generation cell.inside small f fits (word ∙ noted_is) done' born _ p in by_value (continues f o.generation) told where
+      by_value : (b : Bool) → Tells (events_of s.me.0.seen) (request_at s.me.0.layout.cells o.index o.generation) b → (b ≡ true → joins (submission (events_of s.me.0.seen) (nth a.ring k)) ≡ true) × (b ≡ false → (joins (submission (events_of s.me.0.seen) (nth a.ring k)) ≡ false) ⊎ IsChainDone (events_of s.me.0.seen) (nth a.ring k))
+      by_value true t = (λ _. subst (λ (q : Req). joins (submission (events_of s.me.0.seen) q) ≡ true) cell.at t, λ e. absurd (true≢false e))
+      by_value false t = (λ e. absurd (true≢false (sym e)), λ _. subst (λ (q : Req). (joins (submission (events_of s.me.0.seen) q) ≡ false) ⊎ IsChainDone (events_of s.me.0.seen) q) cell.at t)
 
 -- the last step of a call that looked before
 pub stepped_later : (K : List ℕ) (m : Req) (p q w : Pass) (n : ℕ) → Took p.view q.view n → Stepped K m q w → Stepped K m p w
@@ -136,8 +136,8 @@ over_on table K s t o same layout = record { table_is = same.0 ∙ o.table_is; c
 pub over_own : (table : TableId) (K : List ℕ) (s : TableSeat) → IsOver table K s → IsOver table s.me.0.layout.cells s
 over_own table K s o = record { table_is = o.table_is; cells_are = refl; wide = subst (λ (z : List ℕ). table.words ≡ words_of (total z)) o.cells_are o.wide }
 
-pub spot_on : (K M : List ℕ) (ring k : ℕ) (o : Spot) → K ≡ M → IsCell K o.cell × (request_at K o.cell o.generation ≡ nth ring k) × (o.cell < 16384) → o.number ≡ place_of K o.cell → IsSpot M ring k o
-spot_on K M ring k o same a b = subst (λ (z : List ℕ). IsSpot z ring k o) same record { inside = a.0; small = a.2; number_is = b; at = a.1 }
+pub cell_on : (K M : List ℕ) (ring k : ℕ) (o : Cell) → K ≡ M → IsCell K o.index × (request_at K o.index o.generation ≡ nth ring k) × (o.index < 16384) → o.number ≡ place_of K o.index → IsCellOf M ring k o
+cell_on K M ring k o same a b = subst (λ (z : List ℕ). IsCellOf z ring k o) same record { inside = a.0; small = a.2; number_is = b; at = a.1 }
 
 -- the ring of a submitter is there
 pub ring_there : (s : TableSeat) (a : Queue) (K : List ℕ) → IsQueue s a → K ≡ s.me.0.layout.cells → ¬ (length K ≤ a.ring)
@@ -239,17 +239,17 @@ last_generation next count n least few fits over = let k : ℕ = next + (count -
 -- ---- the next request, by what is kept of its cell
 
 -- a request of the ring that was reaped, of whose chain all before it have replied, and which ends it by its facts: the chains up to it are done
-one_more : (s : TableSeat) (a : Queue) (read : ℕ) (o : Spot) (f : Facts) → IsQueue s a → IsSpot s.me.0.layout.cells a.ring a.done o → a.done < a.next → IsReaped (phase (events_of s.me.0.seen) (nth a.ring a.done)) → read ≡ get_or a.facts.items o.number read → IsTrue (fits_facts f) → packed_facts f ≡ read → continues f o.generation ≡ false → IsQueue s (record a { done = a.done + 1 })
-one_more s a read o f l spot lt gone at fits word ends =
+one_more : (s : TableSeat) (a : Queue) (read : ℕ) (o : Cell) (f : Facts) → IsQueue s a → IsCellOf s.me.0.layout.cells a.ring a.done o → a.done < a.next → IsReaped (phase (events_of s.me.0.seen) (nth a.ring a.done)) → read ≡ get_or a.facts.items o.number read → IsTrue (fits_facts f) → packed_facts f ≡ read → continues f o.generation ≡ false → IsQueue s (record a { done = a.done + 1 })
+one_more s a read o f l cell lt gone at fits word ends =
     let h : List Event = events_of s.me.0.seen in let c = reaped_as _ gone in let replied : IsReplied (phase h (nth a.ring a.done)) = subst IsReplied (sym c.2) tt in
-    let say = facts_say s a a.done read o f l spot lt replied at fits word in
+    let say = facts_say s a a.done read o f l cell lt replied at fits word in
     queue_done s a a.done l (omega arith) lt (walked_done h a.ring a.done a.done l.1.done_are (λ j x y. absurd (omega arith)) replied (say.1 ends))
 
 -- the cell of one of the next requests is free, where the chains that end with the request that had it before are done but for that one
-pub known_free : (s : TableSeat) (a : Queue) (k : ℕ) (o : Spot) → IsQueue s a → IsSpot s.me.0.layout.cells a.ring k o → a.next ≤ k → k < a.next + cells_in s.me.0.layout.cells a.ring → k ≤ a.done + cells_in s.me.0.layout.cells a.ring → get_or a.ages.items o.number 0 ≡ o.generation
+pub known_free : (s : TableSeat) (a : Queue) (k : ℕ) (o : Cell) → IsQueue s a → IsCellOf s.me.0.layout.cells a.ring k o → a.next ≤ k → k < a.next + cells_in s.me.0.layout.cells a.ring → k ≤ a.done + cells_in s.me.0.layout.cells a.ring → get_or a.ages.items o.number 0 ≡ o.generation
     → (o.generation ≡ 0) ⊎ ((read : ℕ) × (f : Facts) × (read ≡ get_or a.facts.items o.number read) × IsTrue (fits_facts f) × (packed_facts f ≡ read) × (continues f (o.generation - 1) ≡ false))
     → IsFree s.me.0.layout.cells (events_of s.me.0.seen) (nth a.ring k) × ((e : ℕ) × (k < e + cells_in s.me.0.layout.cells a.ring) × IsQueue s (record a { done = e }))
-known_free s a k o l spot low high near age by = ⊎_elim (λ before. free a.done before l) full (cases_lt k (a.done + n)) where
+known_free s a k o l cell low high near age by = ⊎_elim (λ before. free a.done before l) full (cases_lt k (a.done + n)) where
   K : List ℕ
   K = s.me.0.layout.cells
 
@@ -257,18 +257,18 @@ known_free s a k o l spot low high near age by = ⊎_elim (λ before. free a.don
   n = cells_in K a.ring
 
   free : (e : ℕ) → k < e + n → IsQueue s (record a { done = e }) → IsFree K (events_of s.me.0.seen) (nth a.ring k) × ((e : ℕ) × (k < e + n) × IsQueue s (record a { done = e }))
-  free e before queue = (free_by_age s (record a { done = e }) k o queue spot before age, (e, before, queue))
+  free e before queue = (free_by_age s (record a { done = e }) k o queue cell before age, (e, before, queue))
 
-  ring' : ring_of K o.cell ≡ a.ring
-  ring' = ap (λ (r : Req). r.ring) spot.at
+  ring' : ring_of K o.index ≡ a.ring
+  ring' = ap (λ (r : Req). r.ring) cell.at
 
-  some : place_of K o.cell < n
-  some = let p = (located K o.cell spot.inside).1 in let e = ap (cells_in K) ring' in omega arith
+  some : place_of K o.index < n
+  some = let p = (located K o.index cell.inside).1 in let e = ap (cells_in K) ring' in omega arith
 
   full : a.done + n ≤ k → IsFree K (events_of s.me.0.seen) (nth a.ring k) × ((e : ℕ) × (k < e + n) × IsQueue s (record a { done = e }))
-  full le = let q : Req = nth a.ring a.done in let same : a.done + n ≡ k = omega arith in let number : (request_at K o.cell o.generation).k ≡ k = ap (λ (r : Req). r.k) spot.at in
-      let b = before_it K o.cell o.generation q spot.inside (sym ring') (ap (λ (i : ℕ). q.k + cells_in K i) ring' ∙ (same ∙ sym number)) in ⊎_elim
+  full le = let q : Req = nth a.ring a.done in let same : a.done + n ≡ k = omega arith in let number : (request_at K o.index o.generation).k ≡ k = ap (λ (r : Req). r.k) cell.at in
+      let b = before_it K o.index o.generation q cell.inside (sym ring') (ap (λ (i : ℕ). q.k + cells_in K i) ring' ∙ (same ∙ sym number)) in ⊎_elim
       (λ (first : o.generation ≡ 0). (let g = b.1 in absurd (omega arith)))
-      (λ facts. (let read = facts.0 in let f = facts.1 in let e : o.generation - 1 ≡ b.0 = (let g = b.1 in omega arith) in let o' : Spot = record o { generation = b.0 } in
-      let spot' : IsSpot K a.ring a.done o' = record { inside = spot.inside; small = spot.small; number_is = spot.number_is; at = sym b.2 } in
-      free (a.done + 1) (let p = some in omega arith) (one_more s a read o' f l spot' (let p = some in omega arith) (reaped_by_age s a k o l spot age q refl same) facts.2 facts.3 facts.4 (ap (continues f) (sym e) ∙ facts.5)))) by
+      (λ facts. (let read = facts.0 in let f = facts.1 in let e : o.generation - 1 ≡ b.0 = (let g = b.1 in omega arith) in let o' : Cell = record o { generation = b.0 } in
+      let cell' : IsCellOf K a.ring a.done o' = record { inside = cell.inside; small = cell.small; number_is = cell.number_is; at = sym b.2 } in
+      free (a.done + 1) (let p = some in omega arith) (one_more s a read o' f l cell' (let p = some in omega arith) (reaped_by_age s a k o l cell age q refl same) facts.2 facts.3 facts.4 (ap (continues f) (sym e) ∙ facts.5)))) by

@@ -1,7 +1,7 @@
 -- What a submitter knows of the chains of its ring, from one step to the next, and who has replied.
 use Rattle.board.specs.declared.phase.Phase.{Phase as Standing}
 use Rattle.board.specs.Queues.{Watched}
-use Rattle.board.proofs.Common.{Armed, Bool, Cause, Did, Done, Entry, Event, Extends, Gone, Held, IsCell, IsChainBefore, IsChainDone, IsFree, IsQueue, IsReaped, IsReplied, IsSpot, IsStep, KnowsCell, KnowsChains, Queue, Layout, Legal, Line, List, Looks, None, Option, Orderly, Phase, Ready, Req, Role, Running, Seat, Setup, Some, Spot, Stands, Submission, Submit, Submitter, Thing, Unborn, Vacant, View, ap, arith, before_in, before_it, bool_cases, cases_lt, cells_in, cond, counted, dite, done_lasts, earlier_reaped, eqb-true, events_of, false, get_or, hosts, inr, joins, lasts, legal_before, length, ne_eqb, nth, phase, place_of, previous, reaped_as, reaped_born, refl, request_at, ring_of, rings, same_before, same_itself, setup_of, stands_for, submission, submits, submitter_can, subst, suc, suc-mul, sym, true, true≢false, unborn, unborn_yet, zero, ℕ, ℕ_discrete, ℤ, ⊎_elim, ◌*◌, ◌++◌, ◌+◌, ◌-◌, ◌<◌, ◌==◌, ◌∙◌, ◌∷◌, ◌≡◌, ◌≢◌, ◌≤◌, ◌⊎◌}
+use Rattle.board.proofs.Common.{Armed, Bool, Cause, Did, Done, Entry, Event, Extends, Gone, Held, IsCell, IsChainBefore, IsChainDone, IsFree, IsQueue, IsReaped, IsReplied, IsCellOf, IsStep, KnowsCell, KnowsChains, Queue, Layout, Legal, Line, List, Looks, None, Option, Orderly, Phase, Ready, Req, Role, Running, Seat, Setup, Some, Cell, Stands, Submitted, Submit, Submitter, Thing, Unborn, Vacant, View, ap, arith, before_in, before_it, bool_cases, cases_lt, cells_in, cond, counted, dite, done_lasts, earlier_reaped, eqb-true, events_of, false, get_or, hosts, inr, joins, lasts, legal_before, length, ne_eqb, nth, phase, place_of, previous, reaped_as, reaped_born, refl, request_at, ring_of, rings, same_before, same_itself, setup_of, stands_for, submission, submits, submitter_can, subst, suc, suc-mul, sym, true, true≢false, unborn, unborn_yet, zero, ℕ, ℕ_discrete, ℤ, ⊎_elim, ◌*◌, ◌++◌, ◌+◌, ◌-◌, ◌<◌, ◌==◌, ◌∙◌, ◌∷◌, ◌≡◌, ◌≢◌, ◌≤◌, ◌⊎◌}
 use Rattle.board.proofs.SubmitterSeats.{seat_looked, cell_here}
 use Rattle.board.proofs.OwnCells.{same_default}
 
@@ -47,7 +47,7 @@ walked_open h ring from k le walked pending d = ⊎_elim
 
 -- what stands before the request after one that was submitted now
 pub just_before : (ring next : ℕ) (e : Entry) (bytes : List ℕ) (last : Bool) (h : List Event) → before_in (Submit (nth ring next) e bytes last ∷ h) (nth ring (next + 1)) ≡ Some (record { entry = e; bytes = bytes; last = last })
-just_before ring next e bytes last h = let x : Submission = record { entry = e; bytes = bytes; last = last } in
+just_before ring next e bytes last h = let x : Submitted = record { entry = e; bytes = bytes; last = last } in
     ap (λ b. cond b None (submission (Submit (nth ring next) e bytes last ∷ h) (previous (nth ring (next + 1))))) (ne_eqb (next + 1) 0 (λ u. omega arith))
     ∙ (ap (λ (m : ℕ). submission (Submit (nth ring next) e bytes last ∷ h) (nth ring m)) (let u : next + 1 - 1 ≡ next = omega arith in u) ∙ ap (λ b. cond b (Some x) (submission h (nth ring next))) (same_itself (nth ring next)))
 
@@ -95,17 +95,17 @@ queue_looked s t a l x bare = (seat_looked s t a.ring a.next a.ages.items a.fact
 -- ---- who has replied
 
 -- what a submitter knows of the cell of one of its ring's requests
-pub queue_cell : (s : Seat (Option Thing) View) (a : Queue) (k : ℕ) (o : Spot) → IsQueue s a → IsSpot s.me.0.layout.cells a.ring k o → (o.number < length a.ages.items) × (o.number < length a.facts.items) × KnowsCell s.me.0.layout.cells s.me.0.seen o.cell (get_or a.ages.items o.number 0) (get_or a.facts.items o.number 0)
-queue_cell s a k o l spot = let c = (cell_here s a.ring a.next a.ages.items a.facts.items l.0 o.cell o.number spot.inside spot.number_is (l.0.role ∙ ap Submitter (sym (ap (λ (r : Req). r.ring) spot.at)))) in (c.1, c.2, c.3)
+pub queue_cell : (s : Seat (Option Thing) View) (a : Queue) (k : ℕ) (o : Cell) → IsQueue s a → IsCellOf s.me.0.layout.cells a.ring k o → (o.number < length a.ages.items) × (o.number < length a.facts.items) × KnowsCell s.me.0.layout.cells s.me.0.seen o.index (get_or a.ages.items o.number 0) (get_or a.facts.items o.number 0)
+queue_cell s a k o l cell = let c = (cell_here s a.ring a.next a.ages.items a.facts.items l.0 o.index o.number cell.inside cell.number_is (l.0.role ∙ ap Submitter (sym (ap (λ (r : Req). r.ring) cell.at)))) in (c.1, c.2, c.3)
 
 -- one look
 pub watched_one : (v w : View) (word found : ℕ) → Looks v w → IsStep word found v w → Watched 1 v w
 watched_one v w word found x step = (v, refl, x, (word, found, step))
 
 -- a request whose cell's reaping went past it has replied
-pub reaped_replied : (s : Seat (Option Thing) View) (a : Queue) (k read : ℕ) (o : Spot) → IsQueue s a → IsSpot s.me.0.layout.cells a.ring k o → read ≡ get_or a.ages.items o.number read → o.generation < read → IsReplied (phase (events_of s.me.0.seen) (nth a.ring k))
-reaped_replied s a k read o l spot at lt = let c = queue_cell s a k o l spot in let age : read ≡ get_or a.ages.items o.number 0 = at ∙ same_default a.ages.items o.number read 0 c.0 in
-    subst (λ (r : Req). IsReplied (phase (events_of s.me.0.seen) r)) spot.at (Rattle.steps.proofs.FactsRead.reaped_replied _ (c.2.gone o.generation (subst (λ (z : ℕ). o.generation < z) age lt)))
+pub reaped_replied : (s : Seat (Option Thing) View) (a : Queue) (k read : ℕ) (o : Cell) → IsQueue s a → IsCellOf s.me.0.layout.cells a.ring k o → read ≡ get_or a.ages.items o.number read → o.generation < read → IsReplied (phase (events_of s.me.0.seen) (nth a.ring k))
+reaped_replied s a k read o l cell at lt = let c = queue_cell s a k o l cell in let age : read ≡ get_or a.ages.items o.number 0 = at ∙ same_default a.ages.items o.number read 0 c.0 in
+    subst (λ (r : Req). IsReplied (phase (events_of s.me.0.seen) r)) cell.at (Rattle.steps.proofs.FactsRead.reaped_replied _ (c.2.gone o.generation (subst (λ (z : ℕ). o.generation < z) age lt)))
 
 pub not_pending : (j : List Line) (r : Req) (s : Standing) → (s ≡ Gone) ⊎ ((res : ℤ) × (s ≡ Done res)) → Stands j r s → IsReplied (phase (events_of j) r)
 not_pending j r Gone w k = subst IsReplied (sym k.2) tt
@@ -135,32 +135,32 @@ vacant_by L j x g inside legal orderly le free = record { next = le; free = free
       (λ ne. reaped_as _ (earlier_reaped L (setup_of L) x inside j legal orderly m n (omega arith) (reaped_born _ r)))
 
 -- the cell of a later request isn't free where its reaping has not come to that request
-pub not_free : (s : Seat (Option Thing) View) (a : Queue) (k : ℕ) (o : Spot) → IsQueue s a → IsSpot s.me.0.layout.cells a.ring k o → a.next ≤ k → ¬ (get_or a.ages.items o.number 0 ≡ o.generation) → ¬ IsFree s.me.0.layout.cells (events_of s.me.0.seen) (nth a.ring k)
-not_free s a k o l spot later other free =
-    let L = s.me.0.layout in let j = s.me.0.seen in let c = (queue_cell s a k o l spot).2 in let age : ℕ = get_or a.ages.items o.number 0 in let g : ℕ = o.generation in
-    let ring' : ring_of L.cells o.cell ≡ a.ring = ap (λ (r : Req). r.ring) spot.at in let number : (request_at L.cells o.cell g).k ≡ k = ap (λ (r : Req). r.k) spot.at in
-    let new : submits (events_of j) (ring_of L.cells o.cell) ≤ (request_at L.cells o.cell g).k = (let n = l.0.next_is in let e = ap (λ (i : ℕ). submits (events_of j) i) ring' in omega arith) in
-    let v = vacant_by L j o.cell g spot.inside l.0.legal l.1.orderly new (subst (λ (r : Req). IsFree L.cells (events_of j) r) (sym spot.at) free) in
+pub not_free : (s : Seat (Option Thing) View) (a : Queue) (k : ℕ) (o : Cell) → IsQueue s a → IsCellOf s.me.0.layout.cells a.ring k o → a.next ≤ k → ¬ (get_or a.ages.items o.number 0 ≡ o.generation) → ¬ IsFree s.me.0.layout.cells (events_of s.me.0.seen) (nth a.ring k)
+not_free s a k o l cell later other free =
+    let L = s.me.0.layout in let j = s.me.0.seen in let c = (queue_cell s a k o l cell).2 in let age : ℕ = get_or a.ages.items o.number 0 in let g : ℕ = o.generation in
+    let ring' : ring_of L.cells o.index ≡ a.ring = ap (λ (r : Req). r.ring) cell.at in let number : (request_at L.cells o.index g).k ≡ k = ap (λ (r : Req). r.k) cell.at in
+    let new : submits (events_of j) (ring_of L.cells o.index) ≤ (request_at L.cells o.index g).k = (let n = l.0.next_is in let e = ap (λ (i : ℕ). submits (events_of j) i) ring' in omega arith) in
+    let v = vacant_by L j o.index g cell.inside l.0.legal l.1.orderly new (subst (λ (r : Req). IsFree L.cells (events_of j) r) (sym cell.at) free) in
     let low : ¬ (age < g) = λ lt. (let z = v.gone_by age lt in c.left age (omega arith) (subst IsReaped (sym z.2) tt)) in
-    let high : ¬ (g < age) = λ lt. (let gone = reaped_as _ (c.gone g lt) in let u = unborn_yet (setup_of L) (events_of j) (request_at L.cells o.cell g) l.0.legal new in let y = sym gone.2 ∙ u in cc) in
+    let high : ¬ (g < age) = λ lt. (let gone = reaped_as _ (c.gone g lt) in let u = unborn_yet (setup_of L) (events_of j) (request_at L.cells o.index g) l.0.legal new in let y = sym gone.2 ∙ u in cc) in
     other (omega arith)
 
 -- a request was reaped where the reaping of its cell has come to the next request of that cell
-pub reaped_by_age : (s : Seat (Option Thing) View) (a : Queue) (k : ℕ) (o : Spot) → IsQueue s a → IsSpot s.me.0.layout.cells a.ring k o → get_or a.ages.items o.number 0 ≡ o.generation → (q : Req) → q.ring ≡ a.ring → q.k + cells_in s.me.0.layout.cells a.ring ≡ k → IsReaped (phase (events_of s.me.0.seen) q)
-reaped_by_age s a k o l spot age q ring is =
-    let L = s.me.0.layout in let c = (queue_cell s a k o l spot).2 in let g : ℕ = o.generation in
-    let ring' : ring_of L.cells o.cell ≡ a.ring = ap (λ (r : Req). r.ring) spot.at in let number : (request_at L.cells o.cell g).k ≡ k = ap (λ (r : Req). r.k) spot.at in
-    let b = before_it L.cells o.cell g q spot.inside (ring ∙ sym ring') (ap (λ (i : ℕ). q.k + cells_in L.cells i) ring' ∙ (is ∙ sym number)) in let le : g ≡ suc b.0 = b.1 in
+pub reaped_by_age : (s : Seat (Option Thing) View) (a : Queue) (k : ℕ) (o : Cell) → IsQueue s a → IsCellOf s.me.0.layout.cells a.ring k o → get_or a.ages.items o.number 0 ≡ o.generation → (q : Req) → q.ring ≡ a.ring → q.k + cells_in s.me.0.layout.cells a.ring ≡ k → IsReaped (phase (events_of s.me.0.seen) q)
+reaped_by_age s a k o l cell age q ring is =
+    let L = s.me.0.layout in let c = (queue_cell s a k o l cell).2 in let g : ℕ = o.generation in
+    let ring' : ring_of L.cells o.index ≡ a.ring = ap (λ (r : Req). r.ring) cell.at in let number : (request_at L.cells o.index g).k ≡ k = ap (λ (r : Req). r.k) cell.at in
+    let b = before_it L.cells o.index g q cell.inside (ring ∙ sym ring') (ap (λ (i : ℕ). q.k + cells_in L.cells i) ring' ∙ (is ∙ sym number)) in let le : g ≡ suc b.0 = b.1 in
     subst (λ (r : Req). IsReaped (phase (events_of s.me.0.seen) r)) (sym b.2) (c.gone b.0 (omega arith))
 
 -- a request whose cell's reaping has not gone past it was not reaped
-pub unreaped_by_age : (s : Seat (Option Thing) View) (a : Queue) (k read : ℕ) (o : Spot) → IsQueue s a → IsSpot s.me.0.layout.cells a.ring k o → read ≡ get_or a.ages.items o.number read → ¬ (o.generation < read) → ¬ IsReaped (phase (events_of s.me.0.seen) (nth a.ring k))
-unreaped_by_age s a k read o l spot at ge is = let c = queue_cell s a k o l spot in let age : read ≡ get_or a.ages.items o.number 0 = at ∙ same_default a.ages.items o.number read 0 c.0 in
-    c.2.left o.generation (let e = age in omega arith) (subst (λ (r : Req). IsReaped (phase (events_of s.me.0.seen) r)) (sym spot.at) is)
+pub unreaped_by_age : (s : Seat (Option Thing) View) (a : Queue) (k read : ℕ) (o : Cell) → IsQueue s a → IsCellOf s.me.0.layout.cells a.ring k o → read ≡ get_or a.ages.items o.number read → ¬ (o.generation < read) → ¬ IsReaped (phase (events_of s.me.0.seen) (nth a.ring k))
+unreaped_by_age s a k read o l cell at ge is = let c = queue_cell s a k o l cell in let age : read ≡ get_or a.ages.items o.number 0 = at ∙ same_default a.ages.items o.number read 0 c.0 in
+    c.2.left o.generation (let e = age in omega arith) (subst (λ (r : Req). IsReaped (phase (events_of s.me.0.seen) r)) (sym cell.at) is)
 
 -- and a cell is free where the reaping has come to it, and all chains before the request that had it are done
-pub free_by_age : (s : Seat (Option Thing) View) (a : Queue) (k : ℕ) (o : Spot) → IsQueue s a → IsSpot s.me.0.layout.cells a.ring k o → k < a.done + cells_in s.me.0.layout.cells a.ring → get_or a.ages.items o.number 0 ≡ o.generation → IsFree s.me.0.layout.cells (events_of s.me.0.seen) (nth a.ring k)
-free_by_age s a k o l spot lt age q ring is = let same' : q ≡ nth a.ring q.k = (λ i. record { ring = ring i; k = q.k }) in (
-  reaped_by_age s a k o l spot age q ring is,
+pub free_by_age : (s : Seat (Option Thing) View) (a : Queue) (k : ℕ) (o : Cell) → IsQueue s a → IsCellOf s.me.0.layout.cells a.ring k o → k < a.done + cells_in s.me.0.layout.cells a.ring → get_or a.ages.items o.number 0 ≡ o.generation → IsFree s.me.0.layout.cells (events_of s.me.0.seen) (nth a.ring k)
+free_by_age s a k o l cell lt age q ring is = let same' : q ≡ nth a.ring q.k = (λ i. record { ring = ring i; k = q.k }) in (
+  reaped_by_age s a k o l cell age q ring is,
   subst (λ (r : Req). IsChainDone (events_of s.me.0.seen) r) (sym same') (l.1.done_are q.k (omega arith)),
 )

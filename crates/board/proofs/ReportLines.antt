@@ -2,9 +2,9 @@
 use Rattle.std.proofs.Math.Nat.{mul-le-mul_left}
 use lib.ListN.{length-set}
 use Rattle.atomic_table.proofs.Lists.{set_else}
-use Rattle.steps.specs.declared.parcel.Parcel.{Parcel}
-use Rattle.steps.proofs.StepKinds.{same_parcel}
-use Rattle.board.proofs.Common.{Ages, AreEarlier, AreLater, AreLines, Armed, Bool, Cause, Completion, Done, Event, Full, Gone, Held, IsCell, IsCutOrNot, IsLeft, IsLine, IsLineOf, IsListed, IsParcel, IsPresent, IsReplyOf, Line, List, None, Option, Ordered, Phase, Ready, Reports, Req, Rests, Running, Setup, Some, Stands, Thing, Unborn, [], ap, arith, born_once, cell_says, cells_in, counted, counts_at, data_left, dite, events_of, first_cell, full_slots, get_elem?, inl, inr, length, length-append, located_is, phase, place_of, reaped, refl, replied, request_at, ring_of, runs, set, some, some-injective, submits, subst, suc, sym, unborn, zero, ℕ, ℕ_discrete, ℤ, ⊎_elim, ◌%◌, ◌*◌, ◌++◌, ◌+◌, ◌-◌, ◌/◌, ◌<◌, ◌∙◌, ◌∷◌, ◌≡◌, ◌≤◌, ◌⊎◌}
+use Rattle.steps.specs.declared.slot.Submission.{Submission}
+use Rattle.steps.proofs.StepKinds.{same_submission}
+use Rattle.board.proofs.Common.{Ages, AreEarlier, AreLater, AreLines, Armed, Bool, Cause, Completion, Done, Event, Full, Gone, Held, IsCell, IsCutOrNot, IsLeft, IsLine, IsLineOf, IsListed, IsSubmission, IsPresent, IsReplyOf, Line, List, None, Option, Ordered, Phase, Ready, Reports, Req, Rests, Running, Setup, Some, Stands, Thing, Unborn, [], ap, arith, born_once, cell_says, cells_in, counted, counts_at, data_left, dite, events_of, first_cell, full_slots, get_elem?, inl, inr, length, length-append, located_is, phase, place_of, reaped, refl, replied, request_at, ring_of, runs, set, some, some-injective, submits, subst, suc, sym, unborn, zero, ℕ, ℕ_discrete, ℤ, ⊎_elim, ◌%◌, ◌*◌, ◌++◌, ◌+◌, ◌-◌, ◌/◌, ◌<◌, ◌∙◌, ◌∷◌, ◌≡◌, ◌≤◌, ◌⊎◌}
 use Rattle.board.proofs.Standings.{nat_order}
 use Rattle.board.specs.declared.phase.Phase.{Phase as Standing}
 use Rattle.board.specs.LastCells.{IsKept}
@@ -166,11 +166,11 @@ module _ (s : Setup) (K : List ℕ) (j : List Line) (claims : List ℕ) (slots :
   pub has_slot : IsKept K j slots x g
   has_slot = so.kept x g inside left (λ l. unlisted r lines so.earlier (subst (λ z. IsListed z lines) at l))
 
-  pub is_line : (p : Parcel) → get_elem? slots x ≡ some (Some (Full p)) → (st : Standing) → Stands j (request_at K x g) st → IsPresent st → (line : Completion × Bool) → line.0.req ≡ r → line.0.cqe.user_data ≡ p.sqe.user_data → line.0.buffer ≡ p.buffer → IsReplyOf st line.0.cqe.res line.1 → IsLine (events_of j) line
+  pub is_line : (p : Submission) → get_elem? slots x ≡ some (Some (Full p)) → (st : Standing) → Stands j (request_at K x g) st → IsPresent st → (line : Completion × Bool) → line.0.req ≡ r → line.0.cqe.user_data ≡ p.sqe.user_data → line.0.buffer ≡ p.buffer → IsReplyOf st line.0.cqe.res line.1 → IsLine (events_of j) line
   is_line p full st stands present line of user buffer reply =
       let k = has_slot in let h : List Event = events_of j in let q : Req = request_at K x g in
-      let same' : k.0 ≡ p = same_parcel k.0 p (some-injective _ _ (sym k.1 ∙ full)) in
-      let e : q ≡ line.0.req = at ∙ sym of in let was = subst (λ (z : Parcel). IsParcel j q (data_left h q (phase h q)) z) same' k.2 in
+      let same' : k.0 ≡ p = same_submission k.0 p (some-injective _ _ (sym k.1 ∙ full)) in
+      let e : q ≡ line.0.req = at ∙ sym of in let was = subst (λ (z : Submission). IsSubmission j q (data_left h q (phase h q)) z) same' k.2 in
       subst (λ z. IsLineOf h z line) e (record {
         entry = p.sqe;
         bytes = was.0;

@@ -2,7 +2,7 @@
 use Rattle.board.specs.declared.phase.Phase.{Phase as Standing}
 use Rattle.board.specs.declared.poller.Settling.{Settling}
 use Rattle.board.specs.declared.poller.Settling.TheVariants.{Settled, TargetOpen}
-use Rattle.board.proofs.Common.{Alarm, Alone, Armed, Bool, Did, Done, Entry, Event, Extends, Facts, Goes, Gone, Invalid, IsArmed, IsAt, IsArmedAt, IsKept, IsLinkTimeout, IsOurs, IsPlaced, IsReplied, IsStep, IsTarget, IsTargetOpen, IsUnfired, Layout, Legal, Line, Linked, List, None, Option, Paid, Pass, Req, Role, Seat, Settle, Settles, SettlingTells, Shown, Some, Stands, Submission, Tag, TellsDeadline, Thing, View, Watched, [], ap, arith, armed, bool_cases, by_settle, claim_at, cond, counted_in, eq-eqb, events_of, false, fired, hosts, inl, is_link_timeout, is_timeout, lasts, negsuc, not, pass_of, phase, placed_from, placed_lasts, pollers, previous, refl, replied, request_at, same_fired, same_itself, seen_of, settled_by, setup_of, stands_for, submission, submits, submits_grow, subst, suc, sym, true, true≢false, was_shut, word_of, ℕ, ℤ, ⊎_elim, ◌&&◌, ◌++◌, ◌-◌, ◌<◌, ◌==◌, ◌∙◌, ◌∷◌, ◌≡◌, ◌≢◌, ◌⊎◌}
+use Rattle.board.proofs.Common.{Alarm, Alone, Armed, Bool, Did, Done, Entry, Event, Extends, Facts, Goes, Gone, Invalid, IsArmed, IsAt, IsArmedAt, IsKept, IsLinkTimeout, IsOurs, IsPlaced, IsReplied, IsStep, IsTarget, IsTargetOpen, IsUnfired, Layout, Legal, Line, Linked, List, None, Option, Paid, Pass, Req, Role, Seat, Settle, Settles, SettlingTells, Shown, Some, Stands, Submitted, Tag, TellsDeadline, Thing, View, Watched, [], ap, arith, armed, bool_cases, by_settle, claim_at, cond, counted_in, eq-eqb, events_of, false, fired, hosts, inl, is_link_timeout, is_timeout, lasts, negsuc, not, pass_of, phase, placed_from, placed_lasts, pollers, previous, refl, replied, request_at, same_fired, same_itself, seen_of, settled_by, setup_of, stands_for, submission, submits, submits_grow, subst, suc, sym, true, true≢false, was_shut, word_of, ℕ, ℤ, ⊎_elim, ◌&&◌, ◌++◌, ◌-◌, ◌<◌, ◌==◌, ◌∙◌, ◌∷◌, ◌≡◌, ◌≢◌, ◌⊎◌}
 use Rattle.board.proofs.Expiries.{no_more_armed, stepped_by}
 use Rattle.board.proofs.GoesLaws.{goes_then}
 use Rattle.board.proofs.TimersHeld.{freed_one, goes_one, none}
@@ -15,7 +15,7 @@ abbrev TableSeat : Type 0
 TableSeat = Seat (Option Thing) View
 
 -- a LINK_TIMEOUT stands directly after an entry that hosts it
-pub hosted : (before s : Option Submission) (e : Entry) → placed_from before s ≡ Some e → is_link_timeout e.op ≡ true → hosts before ≡ true
+pub hosted : (before s : Option Submitted) (e : Entry) → placed_from before s ≡ Some e → is_link_timeout e.op ≡ true → hosts before ≡ true
 hosted before None e p l = absurd (let z = p in cc)
 hosted before (Some s) e p l = ⊎_elim (λ w. w)
     (λ (w : hosts before ≡ false). absurd (⊎_elim

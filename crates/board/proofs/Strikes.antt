@@ -6,7 +6,7 @@ use Rattle.board.specs.declared.linked.Struck.{Struck}
 use Rattle.board.specs.declared.linked.Struck.TheVariants.{Took, Missed, Over}
 use Rattle.board.specs.declared.poller.Firing.{Firing}
 use Rattle.board.specs.declared.poller.Firing.TheVariants.{TargetDone}
-use Rattle.board.proofs.Common.{Ages, Alarm, Bool, Did, DidStrike, EndsFired, Entry, Event, Extends, Facts, Fire, FireMiss, Fires, FiresDue, Goes, Invalid, IsArmedAt, IsAt, IsDueLinked, IsLinkTimeout, IsOf, IsOurs, IsPlaced, IsPollerSeat, IsReplied, IsStep, IsTarget, KnowsAlarm, KnowsTimers, Layout, Legal, Line, List, None, Option, Req, Role, Says, Seat, Settle, Setup, Shown, Some, Submission, Tag, Thing, View, Watched, [], ap, arith, armed, becomes, before_in, bool_cases, born_once, by_settle, canceled_fails, claim_at, clock_of, cond, events_of, fails, false, fired, fired_by, freed, held_before, held_no_more, hosts, is_link_timeout, lasts, legal_tail, links, live_tail, negsuc, not, own_none, owns, pass_of, phase, placed_from, placed_lasts, pollers, previous, refl, replied, request_at, ring_of, same, same_fired, same_itself, same_true, says_of, setup_of, slice_get, stands_for, struck_by, submission, submits, subst, suc, sym, true, true≢false, unborn, was_shut, word_of, ℕ, ⊎_elim, ◌&&◌, ◌++◌, ◌-◌, ◌<◌, ◌∙◌, ◌∷◌, ◌≡◌, ◌≢◌, ◌≤◌, ◌⊎◌}
+use Rattle.board.proofs.Common.{Ages, Alarm, Bool, Did, DidStrike, EndsFired, Entry, Event, Extends, Facts, Fire, FireMiss, Fires, FiresDue, Goes, Invalid, IsArmedAt, IsAt, IsDueLinked, IsLinkTimeout, IsOf, IsOurs, IsPlaced, IsPollerSeat, IsReplied, IsStep, IsTarget, KnowsAlarm, KnowsTimers, Layout, Legal, Line, List, None, Option, Req, Role, Says, Seat, Settle, Setup, Shown, Some, Submitted, Tag, Thing, View, Watched, [], ap, arith, armed, becomes, before_in, bool_cases, born_once, by_settle, canceled_fails, claim_at, clock_of, cond, events_of, fails, false, fired, fired_by, freed, held_before, held_no_more, hosts, is_link_timeout, lasts, legal_tail, links, live_tail, negsuc, not, own_none, owns, pass_of, phase, placed_from, placed_lasts, pollers, previous, refl, replied, request_at, ring_of, same, same_fired, same_itself, same_true, says_of, setup_of, slice_get, stands_for, struck_by, submission, submits, subst, suc, sym, true, true≢false, unborn, was_shut, word_of, ℕ, ⊎_elim, ◌&&◌, ◌++◌, ◌-◌, ◌<◌, ◌∙◌, ◌∷◌, ◌≡◌, ◌≢◌, ◌≤◌, ◌⊎◌}
 use Rattle.board.proofs.Expiries.{no_more_armed}
 use Rattle.board.proofs.GoesLaws.{goes_more, goes_then}
 use Rattle.board.proofs.Settlings.{at_is as timer_at, mine as timer_mine, armed_on, born_goes, hosted, link_first, link_later, linked_goes, linked_on, target_is, unfired_on}
@@ -20,7 +20,7 @@ TableSeat = Seat (Option Thing) View
 -- the target of a LINK_TIMEOUT is none, and is answered with -125 (ECANCELED) as a failure
 pub target_fails : (h : List Event) (r : Req) → IsLinkTimeout h r → (e : Entry) × IsPlaced h (previous r) e × (true ≡ fails e (negsuc 124))
 target_fails h r link = of_target (submission h (previous r)) refl (hosted (submission h (previous r)) (submission h r) link.0 (sym (ap (λ (b : Bool). placed_from (cond b None (submission h (previous r))) (submission h r)) (link_first h r link)) ∙ link.1) link.2) where
-  of_target : (t : Option Submission) → submission h (previous r) ≡ t → hosts t ≡ true → (e : Entry) × IsPlaced h (previous r) e × (true ≡ fails e (negsuc 124))
+  of_target : (t : Option Submitted) → submission h (previous r) ≡ t → hosts t ≡ true → (e : Entry) × IsPlaced h (previous r) e × (true ≡ fails e (negsuc 124))
   of_target None at is = absurd (true≢false (sym is))
   of_target (Some t) at is = ⊎_elim
       (λ (w : is_link_timeout t.entry.op ≡ true). absurd (true≢false (sym is ∙ (ap (λ (b : Bool). (links t.entry && not t.last) && not b) w ∙ and-false (links t.entry && not t.last)))))

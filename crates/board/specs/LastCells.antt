@@ -8,13 +8,13 @@ use Rattle.history.specs.declared.event.Event.{Event}
 use Rattle.history.specs.History.{Cause, Phase, waits, runs, armed, replied, phase, submission, data_of, IsIdle}
 use Rattle.history.specs.Legal.{Setup, Legal}
 use Rattle.steps.specs.declared.line.Line.{Line}
-use Rattle.steps.specs.declared.parcel.Parcel.{Parcel}
-use Rattle.steps.specs.declared.parcel.Thing.{Thing}
-use Rattle.steps.specs.declared.parcel.Thing.TheVariants.{Full}
+use Rattle.steps.specs.declared.slot.Submission.{Submission}
+use Rattle.steps.specs.declared.slot.Thing.{Thing}
+use Rattle.steps.specs.declared.slot.Thing.TheVariants.{Full}
 use Rattle.steps.specs.declared.view.Heard.{Heard}
 use Rattle.steps.specs.declared.view.Role.TheVariants.{Poller}
 use Rattle.steps.specs.declared.view.View.{View}
-use Rattle.steps.specs.{events_of, IsCell, request_at, total, claim_at, slot_at, over, IsParcel, Shown, Ended}
+use Rattle.steps.specs.{events_of, IsCell, request_at, total, claim_at, slot_at, over, IsSubmission, Shown, Ended}
 use Rattle.work.specs.{Facts, IsBoard, IsOf, AreCells, Pass}
 use Rattle.board.specs.declared.completion.Completion.{Completion}
 use Rattle.board.specs.declared.phase.Phase.{Phase as Standing}
@@ -72,7 +72,7 @@ pub record Rests (s : Setup) (K : List ℕ) (j : List Line) (claims : List ℕ) 
 
 -- the slot of a cell, unless its request has a line
 abbrev pub IsKept : List ℕ → List Line → List (Option Thing) → ℕ → ℕ → Type 0
-IsKept K j slots x g = (p : Parcel) × (get_elem? slots x ≡ some (Some (Full p))) × IsParcel j (request_at K x g) (data_left (events_of j) (request_at K x g) (phase (events_of j) (request_at K x g))) p
+IsKept K j slots x g = (p : Submission) × (get_elem? slots x ≡ some (Some (Full p))) × IsSubmission j (request_at K x g) (data_left (events_of j) (request_at K x g) (phase (events_of j) (request_at K x g))) p
 
 -- what a line says of its request, by whether the request had a reply before the end
 abbrev pub IsCutOrNot : List Event → Req → ℤ → Bool → Type 0

@@ -22,7 +22,7 @@ pub use Rattle.board.specs.PassEvents.{AreNew, GoesOn, answered_by, answered_one
 pub use Rattle.board.specs.PollerRows.{Decides, IsAt, IsOurs, KnowsRows, MayArm, Paid, Spends}
 pub use Rattle.board.specs.PollerTimers.{IsPast, IsTimerAs, KnowsAlarm, KnowsTimers, looks_at}
 pub use Rattle.board.specs.Polls.{HasRung, polled_by}
-pub use Rattle.board.specs.Queues.{AreFree, HasLookedAt, IsQueue, IsOver, IsSpot, KnowsChains, LinkedAreReaped, RefusesRoom, SameQueue, WereReaped, continues, nth}
+pub use Rattle.board.specs.Queues.{AreFree, HasLookedAt, IsQueue, IsOver, IsCellOf, KnowsChains, LinkedAreReaped, RefusesRoom, SameQueue, WereReaped, continues, nth}
 pub use Rattle.board.specs.Refusals.{RefusesBatch, RefusesEntry, RefusesReap}
 pub use Rattle.board.specs.Reports.{AllTell, AreLater, AreOf, BeginsWith, IsListed, IsReport, IsSeen, Ordered, SawOwnLines, Tells, ended}
 pub use Rattle.board.specs.Seats.{IsNextCell, IsPollerSeat, IsSubmitterSeat, KnowsCell, KnowsCells}

@@ -6,10 +6,10 @@ use Rattle.claim.specs.Facts.{Facts}
 use Rattle.history.specs.declared.req.Req.{Req}
 use Rattle.history.specs.declared.event.Event.{Event}
 use Rattle.history.specs.{phase, submits, IsChainDone, before_in, hosts, joins}
-use Rattle.steps.specs.declared.parcel.Thing.{Thing}
+use Rattle.steps.specs.declared.slot.Thing.{Thing}
 use Rattle.steps.specs.declared.view.View.{View}
 use Rattle.steps.specs.{Orderly, IsFree, IsReaped, events_of, IsCell, cells_in, place_of, request_at, total, words_of, Looks, IsStep}
-use Rattle.work.specs.declared.grid.Spot.{Spot}
+use Rattle.work.specs.declared.grid.Cell.{Cell}
 use Rattle.board.specs.declared.queue.Queue.{Queue}
 use Rattle.work.specs.Passes.{Pass, seen_of}
 use Rattle.board.specs.declared.error.SubmitError.{SubmitError}
@@ -55,11 +55,11 @@ abbrev pub LinkedAreReaped : List Event → ℕ → Type 0
 LinkedAreReaped h ring = (k : ℕ) → k < submits h ring → joins (before_in h (nth ring k)) ≡ true → IsReaped (phase h (nth ring k))
 
 -- it is where the ring's k-th request lies
-pub record IsSpot (K : List ℕ) (ring k : ℕ) (s : Spot) : Type 0 where
-  pub inside : IsCell K s.cell
-  pub small : s.cell < 16384
-  pub number_is : s.number ≡ place_of K s.cell
-  pub at : request_at K s.cell s.generation ≡ nth ring k
+pub record IsCellOf (K : List ℕ) (ring k : ℕ) (s : Cell) : Type 0 where
+  pub inside : IsCell K s.index
+  pub small : s.index < 16384
+  pub number_is : s.number ≡ place_of K s.index
+  pub at : request_at K s.index s.generation ≡ nth ring k
 
 -- the seat is one of this table, whose rings have these cells
 pub record IsOver (table : TableId) (K : List ℕ) (s : Seat (Option Thing) View) : Type 0 where

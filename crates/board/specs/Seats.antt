@@ -5,7 +5,7 @@ use Rattle.history.specs.declared.req.Req.{Req}
 use Rattle.history.specs.History.{phase, submits}
 use Rattle.history.specs.Legal.{Legal}
 use Rattle.steps.specs.declared.line.Line.{Line}
-use Rattle.steps.specs.declared.parcel.Thing.{Thing}
+use Rattle.steps.specs.declared.slot.Thing.{Thing}
 use Rattle.steps.specs.declared.view.Role.TheVariants.{Poller, Submitter}
 use Rattle.steps.specs.declared.view.View.{View}
 use Rattle.work.specs.Passes.{Pass, seen_of}

@@ -7,7 +7,7 @@ use Rattle.history.specs.declared.event.Event.{Event}
 use Rattle.history.specs.declared.event.Event.TheVariants.{Arm, Expire, Count, Fire, FireMiss, Settle}
 use Rattle.history.specs.{phase, unborn, armed, replied, by_expire, by_count, by_settle, fired, clock_of, submits, later_replies, is_replied, IsReplied, IsLinkTimeout, IsPlaced, IsTarget, Severed, is_timeout, is_timer, previous, ticks_of, count_of, IsOf as IsOfKind}
 use Rattle.steps.specs.declared.line.Line.{Line}
-use Rattle.steps.specs.declared.parcel.Thing.{Thing}
+use Rattle.steps.specs.declared.slot.Thing.{Thing}
 use Rattle.steps.specs.declared.view.View.{View}
 use Rattle.steps.specs.{events_of, freed, Begins}
 use Rattle.work.specs.{Facts, Pass, pass_of, seen_of}

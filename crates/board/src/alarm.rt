@@ -20,7 +20,7 @@ use history::Req;
 use steps::facts::{LINK_TIMEOUT, TIMEOUT};
 use steps::layout::{COUNT, FACTS};
 use steps::{TableSeat, seat, timers};
-use work::Spot;
+use work::Cell;
 
 /// What the poller keeps of a timer that it armed, so that the calls which end it need no look at the notes.
 #[derive(Clone, Copy)]
@@ -42,25 +42,25 @@ pub(crate) struct Timer {
 /// A request, and where it lies.
 #[derive(Clone, Copy)]
 pub(crate) struct Place {
-    pub spot: Spot,
+    pub cell: Cell,
     pub req: Req,
 }
 
 /// Which timer the request is, if any, by the facts and the count in its cell. They are right where it has no reply.
-fn timer_in(board: &Board, seat: &mut TableSeat, spot: Spot, req: Req) -> Option<Timer>
+fn timer_in(board: &Board, seat: &mut TableSeat, cell: Cell, req: Req) -> Option<Timer>
     requires ours { IsOurs board.now seat.old }
-    requires at { IsAt board.now.layout.cells spot.cell spot.generation req }
+    requires at { IsAt board.now.layout.cells cell.index cell.generation req }
     requires born { req.k < submits (events_of seat.old.me.0.seen) req.ring }
     ensures watched { Watched board.now seat.old seat.new }
-    ensures told { spot.generation < 16777216 → (IsReplied (phase (events_of seat.new.me.0.seen) req) → ⊥) → IsTimerAs (events_of seat.new.me.0.seen) req result }
+    ensures told { cell.generation < 16777216 → (IsReplied (phase (events_of seat.new.me.0.seen) req) → ⊥) → IsTimerAs (events_of seat.new.me.0.seen) req result }
     ensures steps { Paid seat.old.me.0 seat.new.me.0 0 (looks_at result) }
 {
-    let facts = unpack_facts(seat::look_at_note(&board.table.shared, seat, spot.cell, FACTS));
-    if u64::from(facts.generation) != spot.generation {
+    let facts = unpack_facts(seat::look_at_note(&board.table.shared, seat, cell.index, FACTS));
+    if u64::from(facts.generation) != cell.generation {
         return None;
     }
     if facts.row == TIMEOUT {
-        let count = seat::look_at_note(&board.table.shared, seat, spot.cell, COUNT);
+        let count = seat::look_at_note(&board.table.shared, seat, cell.index, COUNT);
         return Some(Timer {
             ticks: facts.payload,
             alarm: Alarm::Alone(!facts.etime_success, count),
@@ -77,16 +77,16 @@ fn timer_in(board: &Board, seat: &mut TableSeat, spot: Spot, req: Req) -> Option
 
 /// Which timer the request is, if it waits for the poller. Else what its arming comes to.
 #[inline(always)]
-fn held_timer(board: &Board, seat: &mut TableSeat, spot: Spot, req: Req) -> Result<Timer, Arming>
+fn held_timer(board: &Board, seat: &mut TableSeat, cell: Cell, req: Req) -> Result<Timer, Arming>
     requires ours { IsOurs board.now seat.old }
-    requires at { IsAt board.now.layout.cells spot.cell spot.generation req }
+    requires at { IsAt board.now.layout.cells cell.index cell.generation req }
     requires born { req.k < submits (events_of seat.old.me.0.seen) req.ring }
     ensures watched { Watched board.now seat.old seat.new }
-    ensures held { IfOk result (λ t. IsHeldTimer board.now seat.old seat.new spot.generation req t) }
+    ensures held { IfOk result (λ t. IsHeldTimer board.now seat.old seat.new cell.generation req t) }
     ensures refused { IfErr result (λ x. Refuses board.now seat.old seat.new req x) }
 {
-    let found = timer_in(board, seat, spot, req);
-    if !is_held(board, seat, spot, req) {
+    let found = timer_in(board, seat, cell, req);
+    if !is_held(board, seat, cell, req) {
         return Err(Arming::NotHeld);
     }
     let Some(timer) = found else {
@@ -104,7 +104,7 @@ fn set_alarm(
     place: Place,
     timer: Timer,
 ) -> Arming
-    requires here { IsSubmitted board.now seat.old place.spot.cell place.spot.generation place.req }
+    requires here { IsSubmitted board.now seat.old place.cell.index place.cell.generation place.req }
     requires open { (Severed (events_of seat.old.me.0.seen) place.req → ⊥) × Open (events_of seat.old.me.0.seen) place.req }
     requires timer { IsTimerAs (events_of seat.old.me.0.seen) place.req (Some timer) }
     requires clock { (clock ≡ clock_of (events_of seat.old.me.0.seen)) × (clock ≤ 2147483647) }
@@ -115,8 +115,8 @@ fn set_alarm(
 {
     let deadline = clock + timer.ticks;
     let words = &board.table.shared;
-    let spot = place.spot;
-    if timers::arm(words, seat, spot.cell, spot.generation as u32, deadline) {
+    let cell = place.cell;
+    if timers::arm(words, seat, cell.index, cell.generation as u32, deadline) {
         *alarm = timer.alarm;
         Arming::Armed(deadline)
     } else {
@@ -125,9 +125,9 @@ fn set_alarm(
 }
 
 /// Takes in what the row lacks up to the request, if that is there. Whether the row has it.
-fn take_up(board: &Board, seat: &mut TableSeat, row: &mut Row, spot: Spot, req: Req) -> bool
+fn take_up(board: &Board, seat: &mut TableSeat, row: &mut Row, cell: Cell, req: Req) -> bool
     requires ours { IsOurs board.now seat.old }
-    requires at { IsAt board.now.layout.cells spot.cell spot.generation req }
+    requires at { IsAt board.now.layout.cells cell.index cell.generation req }
     requires knows { KnowsRow board.now.layout.cells seat.old.me.0.seen req.ring row.old }
     ensures watched { Watched board.now seat.old seat.new }
     ensures knows { KnowsRow board.now.layout.cells seat.new.me.0.seen req.ring row.new }
@@ -138,7 +138,7 @@ fn take_up(board: &Board, seat: &mut TableSeat, row: &mut Row, spot: Spot, req: 
     if req.k < row.count() {
         return true;
     }
-    if !is_held(board, seat, spot, req) {
+    if !is_held(board, seat, cell, req) {
         return false;
     }
     take_in(board, seat, row, req);
@@ -155,7 +155,7 @@ fn arm_known(
     place: Place,
 ) -> Arming
     requires ours { IsOurs board.now seat.old }
-    requires at { IsAt board.now.layout.cells place.spot.cell place.spot.generation place.req }
+    requires at { IsAt board.now.layout.cells place.cell.index place.cell.generation place.req }
     requires knows { KnowsRow board.now.layout.cells seat.old.me.0.seen place.req.ring row.old }
     requires has { place.req.k < added row.old }
     requires clock { (clock ≡ clock_of (events_of seat.old.me.0.seen)) × (clock ≤ 2147483647) }
@@ -165,10 +165,10 @@ fn arm_known(
     ensures knows { KnowsRow board.now.layout.cells seat.new.me.0.seen place.req.ring row.new }
     ensures steps { Paid seat.old.me.0 seat.new.me.0 0 (3 * waiting row.old + 4) }
 {
-    let Place { spot, req } = place;
-    match held_timer(board, seat, spot, req) {
+    let Place { cell, req } = place;
+    match held_timer(board, seat, cell, req) {
         Err(arming) => arming,
-        Ok(timer) => match gate(board, seat, row, spot, req) {
+        Ok(timer) => match gate(board, seat, row, cell, req) {
             Gating::Open => set_alarm(board, seat, clock, alarm, place, timer),
             Gating::Linked => set_alarm(board, seat, clock, alarm, place, timer),
             Gating::Severed => Arming::Shut,
@@ -188,7 +188,7 @@ fn arm_plain(
     place: Place,
 ) -> Arming
     requires ours { IsOurs board.now seat.old }
-    requires at { IsAt board.now.layout.cells place.spot.cell place.spot.generation place.req }
+    requires at { IsAt board.now.layout.cells place.cell.index place.cell.generation place.req }
     requires knows { KnowsRow board.now.layout.cells seat.old.me.0.seen place.req.ring row.now }
     requires plain { place.req.k < row.now.plain }
     requires clock { (clock ≡ clock_of (events_of seat.old.me.0.seen)) × (clock ≤ 2147483647) }
@@ -198,7 +198,7 @@ fn arm_plain(
     ensures steps { Paid seat.old.me.0 seat.new.me.0 0 4 }
 {
     let _ = row;
-    match held_timer(board, seat, place.spot, place.req) {
+    match held_timer(board, seat, place.cell, place.req) {
         Err(arming) => arming,
         Ok(timer) => set_alarm(board, seat, clock, alarm, place, timer),
     }
@@ -215,7 +215,7 @@ pub(crate) fn arm(
     place: Place,
 ) -> Arming
     requires ours { IsOurs board.now seat.old }
-    requires at { IsAt board.now.layout.cells place.spot.cell place.spot.generation place.req }
+    requires at { IsAt board.now.layout.cells place.cell.index place.cell.generation place.req }
     requires knows { KnowsRow board.now.layout.cells seat.old.me.0.seen place.req.ring row.old }
     requires clock { (clock ≡ clock_of (events_of seat.old.me.0.seen)) × (clock ≤ 2147483647) }
     ensures seat { IsPollerSeat seat.new }
@@ -224,11 +224,11 @@ pub(crate) fn arm(
     ensures knows { KnowsRow board.now.layout.cells seat.new.me.0.seen place.req.ring row.new }
     ensures steps { Paid seat.old.me.0 seat.new.me.0 0 (4 * submits (events_of seat.new.me.0.seen) place.req.ring + 5) }
 {
-    let Place { spot, req } = place;
+    let Place { cell, req } = place;
     if req.k < row.plain() {
         return arm_plain(board, seat, row, clock, alarm, place);
     }
-    if take_up(board, seat, row, spot, req) {
+    if take_up(board, seat, row, cell, req) {
         arm_known(board, seat, row, clock, alarm, place)
     } else {
         Arming::NotHeld
@@ -237,17 +237,17 @@ pub(crate) fn arm(
 
 /// Looks whether the request's timer is armed. Its deadline, if so.
 #[inline(always)]
-pub(crate) fn deadline_of(board: &Board, seat: &mut TableSeat, spot: Spot, req: Req) -> Option<u32>
+pub(crate) fn deadline_of(board: &Board, seat: &mut TableSeat, cell: Cell, req: Req) -> Option<u32>
     requires ours { IsOurs board.now seat.old }
-    requires at { IsAt board.now.layout.cells spot.cell spot.generation req }
+    requires at { IsAt board.now.layout.cells cell.index cell.generation req }
     ensures watched { Watched board.now seat.old seat.new }
-    ensures told { TellsDeadline board.now seat.old seat.new spot.cell spot.generation req result }
+    ensures told { TellsDeadline board.now seat.old seat.new cell.index cell.generation req result }
     ensures found { Stepped board.now.layout.cells req (pass_of seat.old) (pass_of seat.new) }
     ensures step { StepsTo board.now.layout.cells req seat.old.me.0 seat.new.me.0 }
 {
     let _ = req;
-    let word = seat::look(&board.table.shared, seat, spot.cell);
-    match told(word, spot.generation) {
+    let word = seat::look(&board.table.shared, seat, cell.index);
+    match told(word, cell.generation) {
         Phase::Armed(deadline) => Some(deadline),
         _ => None,
     }
@@ -257,12 +257,12 @@ pub(crate) fn deadline_of(board: &Board, seat: &mut TableSeat, spot: Spot, req: 
 pub(crate) fn run_out(
     board: &Board,
     seat: &mut TableSeat,
-    spot: Spot,
+    cell: Cell,
     req: Req,
     deadline: u32,
     fails: bool,
 ) -> Expiry
-    requires armed { IsArmedAt board.now seat.old spot.cell spot.generation req deadline }
+    requires armed { IsArmedAt board.now seat.old cell.index cell.generation req deadline }
     requires due { deadline ≤ clock_of (events_of seat.old.me.0.seen) }
     requires timeout { FailsAs (events_of seat.old.me.0.seen) req fails }
     ensures seat { IsPollerSeat seat.new }
@@ -271,8 +271,8 @@ pub(crate) fn run_out(
 {
     let _ = req;
     let words = &board.table.shared;
-    let generation = spot.generation as u32;
-    if timers::expire(words, seat, spot.cell, generation, deadline, fails) {
+    let generation = cell.generation as u32;
+    if timers::expire(words, seat, cell.index, generation, deadline, fails) {
         Expiry::Expired
     } else {
         Expiry::NotArmed
@@ -285,18 +285,18 @@ pub(crate) fn expire(
     seat: &mut TableSeat,
     clock: u32,
     alarm: Alarm,
-    spot: Spot,
+    cell: Cell,
     req: Req,
 ) -> Expiry
     requires ours { IsOurs board.now seat.old }
-    requires at { IsAt board.now.layout.cells spot.cell spot.generation req }
+    requires at { IsAt board.now.layout.cells cell.index cell.generation req }
     requires clock { clock ≡ clock_of (events_of seat.old.me.0.seen) }
     requires knows { KnowsAlarm (events_of seat.old.me.0.seen) req (Some alarm) }
     ensures seat { IsPollerSeat seat.new }
     ensures expires { Expires board.now req (pass_of seat.old) (pass_of seat.new) result }
     ensures steps { Paid seat.old.me.0 seat.new.me.0 0 2 }
 {
-    let Some(deadline) = deadline_of(board, seat, spot, req) else {
+    let Some(deadline) = deadline_of(board, seat, cell, req) else {
         return Expiry::NotArmed;
     };
     let Alarm::Alone(fails, _) = alarm else {
@@ -305,5 +305,5 @@ pub(crate) fn expire(
     if clock < deadline {
         return Expiry::Early;
     }
-    run_out(board, seat, spot, req, deadline, fails)
+    run_out(board, seat, cell, req, deadline, fails)
 }

@@ -24,7 +24,7 @@ use gates::Row;
 use history::Req;
 use std::alloc::{AllocError, Global};
 use std::marker::Model;
-use steps::{BoardTable, Parcel, TableSeat, Words, table};
+use steps::{BoardTable, Submission, TableSeat, Words, table};
 use work::{Busy, Grid, Lists, Pass, Worker};
 
 /// Rings, pipes and workers over one shared table. Its passes may be used by several threads at once.
@@ -204,11 +204,11 @@ impl Board {
         ensures woken { (P.knows pass.new).woken ≡ (P.knows pass.old).woken }
         ensures alone { KeepsFreed (P.knows pass.old) (P.knows pass.new) }
     {
-        let Some(spot) = self.grid.locate(req) else {
+        let Some(cell) = self.grid.locate(req) else {
             return Phase::Unborn;
         };
-        let word = pass.load(&self.table.shared, spot.cell);
-        told(word, spot.generation)
+        let word = pass.load(&self.table.shared, cell.index);
+        told(word, cell.generation)
     }
 
     /// Both passes look, and the second has then seen all that the first has.
@@ -259,14 +259,14 @@ impl Board {
         if submitter.next_request().k <= req.k {
             return Err(ReapError::NotYet);
         }
-        let Some(spot) = self.grid.locate(req) else {
+        let Some(cell) = self.grid.locate(req) else {
             unreachable!()
         };
         let words = &self.table.shared;
-        let word = submitter.look_at(words, spot.cell);
-        match told(word, spot.generation) {
+        let word = submitter.look_at(words, cell.index);
+        match told(word, cell.generation) {
             Phase::Done(res) => {
-                let returned = submitter.reap(words, spot, word, has_failed(word));
+                let returned = submitter.reap(words, cell, word, has_failed(word));
                 let cqe = Cqe {
                     user_data: returned.0,
                     res,

@@ -14,7 +14,7 @@ use crate::phase::{Phase, told};
 use crate::poller::Counting;
 use history::Req;
 use steps::{TableSeat, seat, timers};
-use work::Spot;
+use work::Cell;
 
 /// Whether a request has replied. None where it wasn't submitted yet.
 fn has_replied(board: &Board, seat: &mut TableSeat, req: Req) -> Option<bool>
@@ -24,11 +24,11 @@ fn has_replied(board: &Board, seat: &mut TableSeat, req: Req) -> Option<bool>
     ensures told { TellsReply (events_of seat.new.me.0.seen) req result }
     ensures step { StepsTo board.now.layout.cells req seat.old.me.0 seat.new.me.0 }
 {
-    let Some(spot) = board.grid.locate(req) else {
+    let Some(cell) = board.grid.locate(req) else {
         unreachable!()
     };
-    let word = seat::look(&board.table.shared, seat, spot.cell);
-    match told(word, spot.generation) {
+    let word = seat::look(&board.table.shared, seat, cell.index);
+    match told(word, cell.generation) {
         Phase::Unborn => None,
         Phase::Done(_) | Phase::Gone => Some(true),
         _ => Some(false),
@@ -63,10 +63,10 @@ fn has_counted(board: &Board, seat: &mut TableSeat, req: Req, count: u64) -> boo
 }
 
 /// Answers a TIMEOUT that may be armed with this deadline alone, and has counted enough completions. Whether it was armed.
-fn end_counted(board: &Board, seat: &mut TableSeat, spot: Spot, req: Req, deadline: u32) -> bool
+fn end_counted(board: &Board, seat: &mut TableSeat, cell: Cell, req: Req, deadline: u32) -> bool
     requires ours { IsOurs board.now seat.old }
-    requires at { IsAt board.now.layout.cells spot.cell spot.generation req }
-    requires small { spot.generation < 16777216 }
+    requires at { IsAt board.now.layout.cells cell.index cell.generation req }
+    requires small { cell.generation < 16777216 }
     requires armed { (d : ℕ) → phase (events_of seat.old.me.0.seen) req ≡ armed d → d ≡ deadline }
     requires born { req.k < submits (events_of seat.old.me.0.seen) req.ring }
     requires enough { (e : Entry) × IsPlaced (events_of seat.old.me.0.seen) req e × (0 < count_of e.op) × (count_of e.op ≤ later_replies (events_of seat.old.me.0.seen) req) }
@@ -78,7 +78,7 @@ fn end_counted(board: &Board, seat: &mut TableSeat, spot: Spot, req: Req, deadli
 {
     let _ = req;
     let words = &board.table.shared;
-    timers::count(words, seat, spot.cell, spot.generation as u32, deadline)
+    timers::count(words, seat, cell.index, cell.generation as u32, deadline)
 }
 
 /// Answers a TIMEOUT that is armed with this deadline, if it has counted enough completions.
@@ -86,12 +86,12 @@ fn end_counted(board: &Board, seat: &mut TableSeat, spot: Spot, req: Req, deadli
 pub(crate) fn count_armed(
     board: &Board,
     seat: &mut TableSeat,
-    spot: Spot,
+    cell: Cell,
     req: Req,
     deadline: u32,
     count: u64,
 ) -> Counting
-    requires armed { IsArmedAt board.now seat.old spot.cell spot.generation req deadline }
+    requires armed { IsArmedAt board.now seat.old cell.index cell.generation req deadline }
     requires counts { IsCounting (events_of seat.old.me.0.seen) req count }
     ensures seat { IsPollerSeat seat.new }
     ensures counts { Counts board.now req (pass_of seat.old) (pass_of seat.new) result }
@@ -102,7 +102,7 @@ pub(crate) fn count_armed(
     if !has_counted(board, seat, req, count) {
         return Counting::Fewer;
     }
-    if end_counted(board, seat, spot, req, deadline) {
+    if end_counted(board, seat, cell, req, deadline) {
         Counting::Counted
     } else {
         Counting::NotArmed
@@ -115,18 +115,18 @@ pub(crate) fn count(
     board: &Board,
     seat: &mut TableSeat,
     alarm: Alarm,
-    spot: Spot,
+    cell: Cell,
     req: Req,
 ) -> Counting
     requires ours { IsOurs board.now seat.old }
-    requires at { IsAt board.now.layout.cells spot.cell spot.generation req }
+    requires at { IsAt board.now.layout.cells cell.index cell.generation req }
     requires knows { KnowsAlarm (events_of seat.old.me.0.seen) req (Some alarm) }
     ensures seat { IsPollerSeat seat.new }
     ensures counts { Counts board.now req (pass_of seat.old) (pass_of seat.new) result }
     ensures steps { Paid seat.old.me.0 seat.new.me.0 0 (cells_in board.now.layout.cells req.ring + 1) }
     ensures looks { Spends board.now.layout.cells req seat.old.me.0 seat.new.me.0 2 (cells_in board.now.layout.cells req.ring - 1) }
 {
-    let Some(deadline) = deadline_of(board, seat, spot, req) else {
+    let Some(deadline) = deadline_of(board, seat, cell, req) else {
         return Counting::NotArmed;
     };
     let Alarm::Alone(_, count) = alarm else {
@@ -135,5 +135,5 @@ pub(crate) fn count(
     if count == 0 {
         return Counting::NotCounted;
     }
-    count_armed(board, seat, spot, req, deadline, count)
+    count_armed(board, seat, cell, req, deadline, count)
 }

@@ -9,7 +9,7 @@ use crate::looks::{Outcome, is_held, look_for_reply};
 use gates::{Asked, Row};
 use history::Req;
 use steps::{TableSeat, seat};
-use work::Spot;
+use work::Cell;
 
 /// What a look at a request that is in the way of another one came to.
 #[derive(Clone, Copy)]
@@ -55,11 +55,11 @@ fn pass(
     board: &Board,
     seat: &mut TableSeat,
     row: &mut Row,
-    spot: Spot,
+    cell: Cell,
     req: Req,
     first: u64,
 ) -> Passing
-    requires here { IsSubmitted board.now seat.old spot.cell spot.generation req }
+    requires here { IsSubmitted board.now seat.old cell.index cell.generation req }
     requires watches { Watches board.now.layout.cells seat.old.me.0.seen req row.old }
     requires earlier { first < req.k }
     requires waits { (xs : List Slot) → Stands xs row.old → Waits xs row.old first }
@@ -77,7 +77,7 @@ fn pass(
         }
         Outcome::ChainDone => row.replied(first, false),
     }
-    if is_held(board, seat, spot, req) {
+    if is_held(board, seat, cell, req) {
         Passing::Passed
     } else {
         Passing::Lost
@@ -103,11 +103,11 @@ fn advance(
     board: &Board,
     seat: &mut TableSeat,
     row: &mut Row,
-    spot: Spot,
+    cell: Cell,
     req: Req,
     looked: bool,
 ) -> Round
-    requires here { IsSubmitted board.now seat.old spot.cell spot.generation req }
+    requires here { IsSubmitted board.now seat.old cell.index cell.generation req }
     requires watches { Watches board.now.layout.cells seat.old.me.0.seen req row.old }
     ensures { Advances board.now req looked seat.old seat.new row.old row.new result }
 {
@@ -117,7 +117,7 @@ fn advance(
         Asked::OpenWith(target) => (target, Round::Decided(Gating::Linked)),
         Asked::Blocked(first, link) => next_look(first, link, looked),
     };
-    match pass(board, seat, row, spot, req, first) {
+    match pass(board, seat, row, cell, req, first) {
         Passing::Waits => waits,
         Passing::Passed => Round::Passed,
         Passing::Lost => Round::Decided(Gating::Lost),
@@ -129,16 +129,16 @@ pub(crate) fn gate(
     board: &Board,
     seat: &mut TableSeat,
     row: &mut Row,
-    spot: Spot,
+    cell: Cell,
     req: Req,
 ) -> Gating
-    requires here { IsSubmitted board.now seat.old spot.cell spot.generation req }
+    requires here { IsSubmitted board.now seat.old cell.index cell.generation req }
     requires watches { Watches board.now.layout.cells seat.old.me.0.seen req row.old }
     ensures { Gates board.now req seat.old seat.new row.old row.new result }
 {
     let mut looked = false;
     loop {
-        match advance(board, seat, row, spot, req, looked) {
+        match advance(board, seat, row, cell, req, looked) {
             Round::Decided(gating) => return gating,
             Round::Passed => {}
             Round::Looked => looked = true,

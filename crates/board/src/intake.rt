@@ -57,10 +57,10 @@ fn add_next(board: &Board, seat: &mut TableSeat, row: &mut Row, next: Req)
     ensures count { added row.new ≡ added row.old + 1 }
     ensures steps { Paid seat.old.me.0 seat.new.me.0 (3 * waiting row.new) (3 * waiting row.old + 4) }
 {
-    let Some(spot) = board.grid.locate(next) else {
+    let Some(cell) = board.grid.locate(next) else {
         unreachable!()
     };
-    let Some(facts) = facts_in(board, seat, spot, next) else {
+    let Some(facts) = facts_in(board, seat, cell, next) else {
         if row.add_stand_in().is_err() {
             unreachable!()
         }

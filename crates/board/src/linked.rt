@@ -17,7 +17,7 @@ use crate::poller::{Firing, Settling};
 use history::Req;
 use steps::claims::{Standing, looked_for, stands_at};
 use steps::{TableSeat, seat, timers};
-use work::Spot;
+use work::Cell;
 
 /// What came of the target of a LINK_TIMEOUT whose deadline has come.
 #[derive(Clone, Copy)]
@@ -31,18 +31,18 @@ pub(crate) enum Struck {
 }
 
 /// Where the target of a LINK_TIMEOUT lies, the request before it.
-fn target_spot(board: &Board, spot: Spot, req: Req) -> Spot
-    requires at { IsAt board.now.layout.cells spot.cell spot.generation req }
-    requires small { spot.generation < 16777216 }
+fn target_cell(board: &Board, cell: Cell, req: Req) -> Cell
+    requires at { IsAt board.now.layout.cells cell.index cell.generation req }
+    requires small { cell.generation < 16777216 }
     requires linked { (h : List Event) × Legal (setup_of board.now.layout) h × (req.k < submits h req.ring) × IsLinkTimeout h req }
-    ensures at { IsAt board.now.layout.cells result.cell result.generation (previous req) }
+    ensures at { IsAt board.now.layout.cells result.index result.generation (previous req) }
     ensures small { result.generation < 16777216 }
 {
     let target = Req {
         ring: req.ring,
         k: req.k - 1,
     };
-    let _ = spot;
+    let _ = cell;
     let Some(found) = board.grid.locate(target) else {
         unreachable!()
     };
@@ -53,11 +53,11 @@ fn target_spot(board: &Board, spot: Spot, req: Req) -> Spot
 pub(crate) fn end_linked(
     board: &Board,
     seat: &mut TableSeat,
-    spot: Spot,
+    cell: Cell,
     req: Req,
     deadline: u32,
 ) -> Settling
-    requires armed { IsArmedAt board.now seat.old spot.cell spot.generation req deadline }
+    requires armed { IsArmedAt board.now seat.old cell.index cell.generation req deadline }
     requires unfired { IsUnfired (events_of seat.old.me.0.seen) req }
     requires target { (t : Request) × IsTarget (events_of seat.old.me.0.seen) req t × IsReplied (phase (events_of seat.old.me.0.seen) t) }
     ensures seat { IsPollerSeat seat.new }
@@ -66,8 +66,8 @@ pub(crate) fn end_linked(
 {
     let _ = req;
     let words = &board.table.shared;
-    let generation = spot.generation as u32;
-    if timers::settle(words, seat, spot.cell, generation, deadline, false) {
+    let generation = cell.generation as u32;
+    if timers::settle(words, seat, cell.index, generation, deadline, false) {
         Settling::Settled
     } else {
         Settling::NotArmed
@@ -75,10 +75,10 @@ pub(crate) fn end_linked(
 }
 
 /// Looks whether the target of a LINK_TIMEOUT has replied.
-fn target_replied(board: &Board, seat: &mut TableSeat, spot: Spot, req: Req) -> bool
+fn target_replied(board: &Board, seat: &mut TableSeat, cell: Cell, req: Req) -> bool
     requires ours { IsOurs board.now seat.old }
-    requires at { IsAt board.now.layout.cells spot.cell spot.generation req }
-    requires small { spot.generation < 16777216 }
+    requires at { IsAt board.now.layout.cells cell.index cell.generation req }
+    requires small { cell.generation < 16777216 }
     requires born { req.k < submits (events_of seat.old.me.0.seen) req.ring }
     requires linked { IsLinkTimeout (events_of seat.old.me.0.seen) req }
     ensures watched { Watched board.now seat.old seat.new }
@@ -86,8 +86,8 @@ fn target_replied(board: &Board, seat: &mut TableSeat, spot: Spot, req: Req) -> 
     ensures pending { result ≡ false → IsTargetOpen board.now.layout.cells req (pass_of seat.old) (pass_of seat.new) }
     ensures steps { Paid seat.old.me.0 seat.new.me.0 0 1 }
 {
-    let target = target_spot(board, spot, req);
-    let word = seat::look(&board.table.shared, seat, target.cell);
+    let target = target_cell(board, cell, req);
+    let word = seat::look(&board.table.shared, seat, target.index);
     matches!(told(word, target.generation), Phase::Done(_) | Phase::Gone)
 }
 
@@ -95,20 +95,20 @@ fn target_replied(board: &Board, seat: &mut TableSeat, spot: Spot, req: Req) -> 
 pub(crate) fn settle_armed(
     board: &Board,
     seat: &mut TableSeat,
-    spot: Spot,
+    cell: Cell,
     req: Req,
     deadline: u32,
 ) -> Settling
-    requires armed { IsArmedAt board.now seat.old spot.cell spot.generation req deadline }
+    requires armed { IsArmedAt board.now seat.old cell.index cell.generation req deadline }
     requires unfired { IsUnfired (events_of seat.old.me.0.seen) req }
     ensures seat { IsPollerSeat seat.new }
     ensures settles { Settles board.now req (pass_of seat.old) (pass_of seat.new) result }
     ensures steps { Paid seat.old.me.0 seat.new.me.0 0 2 }
 {
-    if !target_replied(board, seat, spot, req) {
+    if !target_replied(board, seat, cell, req) {
         return Settling::TargetOpen;
     }
-    end_linked(board, seat, spot, req, deadline)
+    end_linked(board, seat, cell, req, deadline)
 }
 
 /// Answers a LINK_TIMEOUT whose target replied before it ran out. `alarm` is what is kept of the cell's timer.
@@ -116,44 +116,44 @@ pub(crate) fn settle(
     board: &Board,
     seat: &mut TableSeat,
     alarm: Alarm,
-    spot: Spot,
+    cell: Cell,
     req: Req,
 ) -> Settling
     requires ours { IsOurs board.now seat.old }
-    requires at { IsAt board.now.layout.cells spot.cell spot.generation req }
+    requires at { IsAt board.now.layout.cells cell.index cell.generation req }
     requires knows { KnowsAlarm (events_of seat.old.me.0.seen) req (Some alarm) }
     ensures seat { IsPollerSeat seat.new }
     ensures settles { Settles board.now req (pass_of seat.old) (pass_of seat.new) result }
     ensures steps { Paid seat.old.me.0 seat.new.me.0 0 3 }
 {
-    let Some(until) = deadline_of(board, seat, spot, req) else {
+    let Some(until) = deadline_of(board, seat, cell, req) else {
         return Settling::NotArmed;
     };
     let Alarm::Linked = alarm else {
         return Settling::NotArmed;
     };
-    settle_armed(board, seat, spot, req, until)
+    settle_armed(board, seat, cell, req, until)
 }
 
 /// Ends the target of a LINK_TIMEOUT whose deadline has come, or finds it running, or with a reply.
 /// One exchange is enough: only the poller makes Ready or arms, so a word that it found idle stays until the request runs or ends.
-pub(crate) fn strike(board: &Board, seat: &mut TableSeat, spot: Spot, req: Req) -> Struck
+pub(crate) fn strike(board: &Board, seat: &mut TableSeat, cell: Cell, req: Req) -> Struck
     requires ours { IsOurs board.now seat.old }
-    requires at { IsAt board.now.layout.cells spot.cell spot.generation req }
-    requires small { spot.generation < 16777216 }
+    requires at { IsAt board.now.layout.cells cell.index cell.generation req }
+    requires small { cell.generation < 16777216 }
     requires due { IsDueLinked (events_of seat.old.me.0.seen) req }
     ensures seat { IsPollerSeat seat.new }
     ensures strikes { DidStrike board.now req (pass_of seat.old) (pass_of seat.new) result }
     ensures steps { Paid seat.old.me.0 seat.new.me.0 0 2 }
 {
-    let target = target_spot(board, spot, req);
+    let target = target_cell(board, cell, req);
     let generation = target.generation as u32;
     let words = &board.table.shared;
-    let word = seat::look(words, seat, target.cell);
+    let word = seat::look(words, seat, target.index);
     let Some(expected) = looked_for(word, generation) else {
         return Struck::Over;
     };
-    let found = timers::fire(words, seat, target.cell, generation, expected, true);
+    let found = timers::fire(words, seat, target.index, generation, expected, true);
     if found == expected {
         return Struck::Took;
     }
@@ -165,8 +165,8 @@ pub(crate) fn strike(board: &Board, seat: &mut TableSeat, spot: Spot, req: Req) 
 }
 
 /// Answers a LINK_TIMEOUT that has fired.
-pub(crate) fn end_fired(board: &Board, seat: &mut TableSeat, spot: Spot, req: Req, deadline: u32)
-    requires armed { IsArmedAt board.now seat.old spot.cell spot.generation req deadline }
+pub(crate) fn end_fired(board: &Board, seat: &mut TableSeat, cell: Cell, req: Req, deadline: u32)
+    requires armed { IsArmedAt board.now seat.old cell.index cell.generation req deadline }
     requires linked { IsLinkTimeout (events_of seat.old.me.0.seen) req }
     requires fired { fired (events_of seat.old.me.0.seen) req ≡ true }
     ensures seat { IsPollerSeat seat.new }
@@ -175,8 +175,8 @@ pub(crate) fn end_fired(board: &Board, seat: &mut TableSeat, spot: Spot, req: Re
 {
     let _ = req;
     let words = &board.table.shared;
-    let generation = spot.generation as u32;
-    timers::settle(words, seat, spot.cell, generation, deadline, true);
+    let generation = cell.generation as u32;
+    timers::settle(words, seat, cell.index, generation, deadline, true);
 }
 
 /// Fires a LINK_TIMEOUT that is armed with this deadline, which has come, and answers it, unless its target has replied.
@@ -184,22 +184,22 @@ pub(crate) fn end_fired(board: &Board, seat: &mut TableSeat, spot: Spot, req: Re
 pub(crate) fn fire_due(
     board: &Board,
     seat: &mut TableSeat,
-    spot: Spot,
+    cell: Cell,
     req: Req,
     deadline: u32,
 ) -> Struck
-    requires armed { IsArmedAt board.now seat.old spot.cell spot.generation req deadline }
+    requires armed { IsArmedAt board.now seat.old cell.index cell.generation req deadline }
     requires due { IsDueLinked (events_of seat.old.me.0.seen) req }
     ensures seat { IsPollerSeat seat.new }
-    ensures fires { FiresDue board.now seat.old seat.new spot.cell spot.generation req deadline result }
+    ensures fires { FiresDue board.now seat.old seat.new cell.index cell.generation req deadline result }
     ensures over { result ≡ Over → Paid seat.old.me.0 seat.new.me.0 0 2 }
     ensures steps { Paid seat.old.me.0 seat.new.me.0 0 3 }
 {
-    let struck = strike(board, seat, spot, req);
+    let struck = strike(board, seat, cell, req);
     match struck {
         Struck::Over => struck,
         _ => {
-            end_fired(board, seat, spot, req, deadline);
+            end_fired(board, seat, cell, req, deadline);
             struck
         }
     }
@@ -212,18 +212,18 @@ pub(crate) fn fire(
     seat: &mut TableSeat,
     clock: u32,
     alarm: Alarm,
-    spot: Spot,
+    cell: Cell,
     req: Req,
 ) -> Firing
     requires ours { IsOurs board.now seat.old }
-    requires at { IsAt board.now.layout.cells spot.cell spot.generation req }
+    requires at { IsAt board.now.layout.cells cell.index cell.generation req }
     requires clock { clock ≡ clock_of (events_of seat.old.me.0.seen) }
     requires knows { KnowsAlarm (events_of seat.old.me.0.seen) req (Some alarm) }
     ensures seat { IsPollerSeat seat.new }
     ensures fires { Fires board.now req (pass_of seat.old) (pass_of seat.new) result }
     ensures steps { Paid seat.old.me.0 seat.new.me.0 0 4 }
 {
-    let Some(deadline) = deadline_of(board, seat, spot, req) else {
+    let Some(deadline) = deadline_of(board, seat, cell, req) else {
         return Firing::NotArmed;
     };
     let Alarm::Linked = alarm else {
@@ -232,7 +232,7 @@ pub(crate) fn fire(
     if clock < deadline {
         return Firing::Early;
     }
-    match fire_due(board, seat, spot, req, deadline) {
+    match fire_due(board, seat, cell, req, deadline) {
         Struck::Over => Firing::TargetDone,
         Struck::Took => Firing::Took,
         Struck::Missed => Firing::Missed,

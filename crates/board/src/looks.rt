@@ -17,7 +17,7 @@ use history::Req;
 use steps::facts::{INVALID, LINK_TIMEOUT};
 use steps::layout::FACTS;
 use steps::{TableSeat, seat};
-use work::Spot;
+use work::Cell;
 
 /// What looks at a request tell of its reply.
 #[derive(Clone, Copy)]
@@ -47,20 +47,20 @@ pub(crate) fn traits_in(facts: FactsWord) -> Traits
 pub(crate) fn facts_in(
     board: &Board,
     seat: &mut TableSeat,
-    spot: Spot,
+    cell: Cell,
     req: Req,
 ) -> Option<FactsWord>
     requires ours { IsOurs board.now seat.old }
-    requires at { IsAt board.now.layout.cells spot.cell spot.generation req }
-    requires small { spot.generation < 16777216 }
+    requires at { IsAt board.now.layout.cells cell.index cell.generation req }
+    requires small { cell.generation < 16777216 }
     requires born { req.k < submits (events_of seat.old.me.0.seen) req.ring }
     ensures watched { Watched board.now seat.old seat.new }
     ensures told { ToldFacts (events_of seat.new.me.0.seen) req result }
     ensures steps { Paid seat.old.me.0 seat.new.me.0 0 1 }
 {
-    let word = seat::look_at_note(&board.table.shared, seat, spot.cell, FACTS);
+    let word = seat::look_at_note(&board.table.shared, seat, cell.index, FACTS);
     let facts = unpack_facts(word);
-    if u64::from(facts.generation) == spot.generation {
+    if u64::from(facts.generation) == cell.generation {
         Some(facts)
     } else {
         None
@@ -76,13 +76,13 @@ pub(crate) fn look_for_reply(board: &Board, seat: &mut TableSeat, req: Req) -> O
     ensures told { TellsOutcome board.now.layout.cells req (pass_of seat.old) (pass_of seat.new) result }
     ensures steps { Paid seat.old.me.0 seat.new.me.0 0 (looks_for result) }
 {
-    let Some(spot) = board.grid.locate(req) else {
+    let Some(cell) = board.grid.locate(req) else {
         unreachable!()
     };
-    let word = seat::look(&board.table.shared, seat, spot.cell);
-    match told(word, spot.generation) {
+    let word = seat::look(&board.table.shared, seat, cell.index);
+    match told(word, cell.generation) {
         Phase::Done(_) => Outcome::Replied(has_failed(word)),
-        Phase::Gone => match facts_in(board, seat, spot, req) {
+        Phase::Gone => match facts_in(board, seat, cell, req) {
             Some(facts) => Outcome::Replied(facts.payload == 1),
             None => Outcome::ChainDone,
         },
@@ -91,16 +91,16 @@ pub(crate) fn look_for_reply(board: &Board, seat: &mut TableSeat, req: Req) -> O
 }
 
 /// Whether the request waits for the poller, as its claim word tells.
-pub(crate) fn is_held(board: &Board, seat: &mut TableSeat, spot: Spot, req: Req) -> bool
+pub(crate) fn is_held(board: &Board, seat: &mut TableSeat, cell: Cell, req: Req) -> bool
     requires ours { IsOurs board.now seat.old }
-    requires at { IsAt board.now.layout.cells spot.cell spot.generation req }
+    requires at { IsAt board.now.layout.cells cell.index cell.generation req }
     ensures watched { Watched board.now seat.old seat.new }
-    ensures held { result ≡ true → (phase (events_of seat.new.me.0.seen) req ≡ waits) × (spot.generation < 16777216) }
+    ensures held { result ≡ true → (phase (events_of seat.new.me.0.seen) req ≡ waits) × (cell.generation < 16777216) }
     ensures unfreed { result ≡ true → (freed seat.new.me.0.seen req ≡ false) × Stepped board.now.layout.cells req (pass_of seat.old) (pass_of seat.new) }
     ensures lost { result ≡ false → Decides board.now req (pass_of seat.old) (pass_of seat.new) NotHeld }
     ensures steps { Paid seat.old.me.0 seat.new.me.0 0 1 }
 {
     let _ = req;
-    let word = seat::look(&board.table.shared, seat, spot.cell);
-    matches!(told(word, spot.generation), Phase::Held)
+    let word = seat::look(&board.table.shared, seat, cell.index);
+    matches!(told(word, cell.generation), Phase::Held)
 }

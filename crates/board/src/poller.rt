@@ -19,7 +19,7 @@ use history::Req;
 use limits::TICK;
 use std::marker::Model;
 use steps::{TableSeat, Words, seat, table, timers};
-use work::{Messenger, Pass, Spot};
+use work::{Cell, Messenger, Pass};
 
 /// The poller's pass: it moves what may begin to the workers, and ends what is severed. Of each ring it keeps a row of what it
 /// has seen, and of each cell what timer it armed last for a request of it. It alone sets the clock, so it knows the time.
@@ -195,93 +195,93 @@ impl Poller {
     }
 
     /// Releases the request in this cell.
-    pub(crate) fn release(&mut self, board: &Board, spot: Spot, req: Req) -> Released
+    pub(crate) fn release(&mut self, board: &Board, cell: Cell, req: Req) -> Released
         requires ours { IsOf board.now self.old }
-        requires at { IsAt board.now.layout.cells spot.cell spot.generation req }
+        requires at { IsAt board.now.layout.cells cell.index cell.generation req }
         ensures decides { Decides board.now req self.old self.new result }
         ensures steps { Paid self.old.view self.new.view 0 (4 * submits (seen_of self.new) req.ring + 4) }
     {
         let ring = usize::from(req.ring);
-        release::release(board, &mut self.seat, &mut self.rows[ring], spot, req)
+        release::release(board, &mut self.seat, &mut self.rows[ring], cell, req)
     }
 
     /// Arms the request in this cell.
-    pub(crate) fn arm(&mut self, board: &Board, spot: Spot, req: Req) -> Arming
+    pub(crate) fn arm(&mut self, board: &Board, cell: Cell, req: Req) -> Arming
         requires ours { IsOf board.now self.old }
-        requires at { IsAt board.now.layout.cells spot.cell spot.generation req }
+        requires at { IsAt board.now.layout.cells cell.index cell.generation req }
         ensures arms { Arms board.now req self.old self.new result }
         ensures steps { Paid self.old.view self.new.view 0 (4 * submits (seen_of self.new) req.ring + 5) }
     {
         let row = &mut self.rows[usize::from(req.ring)];
-        let alarm = &mut self.alarms[spot.cell];
-        let place = Place { spot, req };
+        let alarm = &mut self.alarms[cell.index];
+        let place = Place { cell, req };
         alarm::arm(board, &mut self.seat, row, self.clock, alarm, place)
     }
 
     /// Lets the timer in this cell run out.
-    pub(crate) fn expire(&mut self, board: &Board, spot: Spot, req: Req) -> Expiry
+    pub(crate) fn expire(&mut self, board: &Board, cell: Cell, req: Req) -> Expiry
         requires ours { IsOf board.now self.old }
-        requires at { IsAt board.now.layout.cells spot.cell spot.generation req }
+        requires at { IsAt board.now.layout.cells cell.index cell.generation req }
         ensures expires { Expires board.now req self.old self.new result }
         ensures steps { Paid self.old.view self.new.view 0 2 }
     {
-        let alarm = self.alarms[spot.cell];
-        alarm::expire(board, &mut self.seat, self.clock, alarm, spot, req)
+        let alarm = self.alarms[cell.index];
+        alarm::expire(board, &mut self.seat, self.clock, alarm, cell, req)
     }
 
     /// Answers the timer in this cell, if it has counted enough completions.
-    pub(crate) fn count(&mut self, board: &Board, spot: Spot, req: Req) -> Counting
+    pub(crate) fn count(&mut self, board: &Board, cell: Cell, req: Req) -> Counting
         requires ours { IsOf board.now self.old }
-        requires at { IsAt board.now.layout.cells spot.cell spot.generation req }
+        requires at { IsAt board.now.layout.cells cell.index cell.generation req }
         ensures counts { Counts board.now req self.old self.new result }
         ensures steps { Paid self.old.view self.new.view 0 (cells_in board.now.layout.cells req.ring + 1) }
         ensures looks { Spends board.now.layout.cells req self.old.view self.new.view 2 (cells_in board.now.layout.cells req.ring - 1) }
     {
-        let alarm = self.alarms[spot.cell];
-        counting::count(board, &mut self.seat, alarm, spot, req)
+        let alarm = self.alarms[cell.index];
+        counting::count(board, &mut self.seat, alarm, cell, req)
     }
 
     /// Fires the timer in this cell.
-    pub(crate) fn fire(&mut self, board: &Board, spot: Spot, req: Req) -> Firing
+    pub(crate) fn fire(&mut self, board: &Board, cell: Cell, req: Req) -> Firing
         requires ours { IsOf board.now self.old }
-        requires at { IsAt board.now.layout.cells spot.cell spot.generation req }
+        requires at { IsAt board.now.layout.cells cell.index cell.generation req }
         ensures fires { Fires board.now req self.old self.new result }
         ensures steps { Paid self.old.view self.new.view 0 4 }
     {
-        let alarm = self.alarms[spot.cell];
-        linked::fire(board, &mut self.seat, self.clock, alarm, spot, req)
+        let alarm = self.alarms[cell.index];
+        linked::fire(board, &mut self.seat, self.clock, alarm, cell, req)
     }
 
     /// Settles the timer in this cell.
-    pub(crate) fn settle(&mut self, board: &Board, spot: Spot, req: Req) -> Settling
+    pub(crate) fn settle(&mut self, board: &Board, cell: Cell, req: Req) -> Settling
         requires ours { IsOf board.now self.old }
-        requires at { IsAt board.now.layout.cells spot.cell spot.generation req }
+        requires at { IsAt board.now.layout.cells cell.index cell.generation req }
         ensures settles { Settles board.now req self.old self.new result }
         ensures steps { Paid self.old.view self.new.view 0 3 }
     {
-        let alarm = self.alarms[spot.cell];
-        linked::settle(board, &mut self.seat, alarm, spot, req)
+        let alarm = self.alarms[cell.index];
+        linked::settle(board, &mut self.seat, alarm, cell, req)
     }
 
     /// Does what is to be done with the timer in this cell.
     pub(crate) fn poll_timer(
         &mut self,
         board: &Board,
-        spot: Spot,
+        cell: Cell,
         req: Req,
         may_fire: bool,
     ) -> Polled
         requires ours { IsOf board.now self.old }
-        requires at { IsAt board.now.layout.cells spot.cell spot.generation req }
+        requires at { IsAt board.now.layout.cells cell.index cell.generation req }
         ensures polls { Polls board.now may_fire req self.old self.new result }
         ensures steps { Paid self.old.view self.new.view 0 (cells_in board.now.layout.cells req.ring + 3) }
     {
-        let alarm = self.alarms[spot.cell];
+        let alarm = self.alarms[cell.index];
         let polling = Polling {
             clock: self.clock,
             may_fire,
         };
-        polling::poll(board, &mut self.seat, polling, alarm, spot, req)
+        polling::poll(board, &mut self.seat, polling, alarm, cell, req)
     }
 
     /// Sets the clock on.

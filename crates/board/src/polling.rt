@@ -13,7 +13,7 @@ use crate::linked::{Struck, end_linked, fire_due, settle_armed};
 use crate::poller::{Counting, Expiry, Polled, Settling};
 use history::Req;
 use steps::TableSeat;
-use work::Spot;
+use work::Cell;
 
 /// The clock's time, and whether a LINK_TIMEOUT may fire.
 #[derive(Clone, Copy)]
@@ -26,19 +26,19 @@ pub(crate) struct Polling {
 fn poll_count(
     board: &Board,
     seat: &mut TableSeat,
-    spot: Spot,
+    cell: Cell,
     req: Req,
     deadline: u32,
     count: u64,
 ) -> Polled
-    requires armed { IsArmedAt board.now seat.old spot.cell spot.generation req deadline }
+    requires armed { IsArmedAt board.now seat.old cell.index cell.generation req deadline }
     requires early { clock_of (events_of seat.old.me.0.seen) < deadline }
     requires counts { IsCounting (events_of seat.old.me.0.seen) req count }
     ensures seat { IsPollerSeat seat.new }
     ensures polls { (may : Bool) → Polls board.now may req (pass_of seat.old) (pass_of seat.new) result }
     ensures steps { Paid seat.old.me.0 seat.new.me.0 0 (cells_in board.now.layout.cells req.ring) }
 {
-    match count_armed(board, seat, spot, req, deadline, count) {
+    match count_armed(board, seat, cell, req, deadline, count) {
         Counting::Counted => Polled::Counted,
         Counting::Fewer => Polled::Fewer,
         Counting::NotArmed => Polled::NotArmed,
@@ -50,34 +50,34 @@ fn poll_count(
 fn poll_expiry(
     board: &Board,
     seat: &mut TableSeat,
-    spot: Spot,
+    cell: Cell,
     req: Req,
     deadline: u32,
     fails: bool,
 ) -> Polled
-    requires armed { IsArmedAt board.now seat.old spot.cell spot.generation req deadline }
+    requires armed { IsArmedAt board.now seat.old cell.index cell.generation req deadline }
     requires due { deadline ≤ clock_of (events_of seat.old.me.0.seen) }
     requires timeout { FailsAs (events_of seat.old.me.0.seen) req fails }
     ensures seat { IsPollerSeat seat.new }
     ensures polls { (may : Bool) → Polls board.now may req (pass_of seat.old) (pass_of seat.new) result }
     ensures steps { Paid seat.old.me.0 seat.new.me.0 0 1 }
 {
-    match run_out(board, seat, spot, req, deadline, fails) {
+    match run_out(board, seat, cell, req, deadline, fails) {
         Expiry::Expired => Polled::Expired,
         _ => Polled::NotArmed,
     }
 }
 
 /// Fires a LINK_TIMEOUT that is armed with this deadline, which has come, or settles it where its target has replied.
-fn poll_due(board: &Board, seat: &mut TableSeat, spot: Spot, req: Req, deadline: u32) -> Polled
-    requires armed { IsArmedAt board.now seat.old spot.cell spot.generation req deadline }
+fn poll_due(board: &Board, seat: &mut TableSeat, cell: Cell, req: Req, deadline: u32) -> Polled
+    requires armed { IsArmedAt board.now seat.old cell.index cell.generation req deadline }
     requires due { IsDueLinked (events_of seat.old.me.0.seen) req }
     ensures seat { IsPollerSeat seat.new }
     ensures polls { Polls board.now true req (pass_of seat.old) (pass_of seat.new) result }
     ensures steps { Paid seat.old.me.0 seat.new.me.0 0 3 }
 {
-    match fire_due(board, seat, spot, req, deadline) {
-        Struck::Over => match end_linked(board, seat, spot, req, deadline) {
+    match fire_due(board, seat, cell, req, deadline) {
+        Struck::Over => match end_linked(board, seat, cell, req, deadline) {
             Settling::Settled => Polled::Settled,
             _ => Polled::NotArmed,
         },
@@ -91,11 +91,11 @@ fn poll_linked(
     board: &Board,
     seat: &mut TableSeat,
     polling: Polling,
-    spot: Spot,
+    cell: Cell,
     req: Req,
     deadline: u32,
 ) -> Polled
-    requires armed { IsArmedAt board.now seat.old spot.cell spot.generation req deadline }
+    requires armed { IsArmedAt board.now seat.old cell.index cell.generation req deadline }
     requires unfired { IsUnfired (events_of seat.old.me.0.seen) req }
     requires clock { polling.clock ≡ clock_of (events_of seat.old.me.0.seen) }
     ensures seat { IsPollerSeat seat.new }
@@ -104,9 +104,9 @@ fn poll_linked(
 {
     let is_due = deadline <= polling.clock;
     if is_due && polling.may_fire {
-        return poll_due(board, seat, spot, req, deadline);
+        return poll_due(board, seat, cell, req, deadline);
     }
-    match settle_armed(board, seat, spot, req, deadline) {
+    match settle_armed(board, seat, cell, req, deadline) {
         Settling::Settled => Polled::Settled,
         Settling::TargetOpen => {
             if is_due {
@@ -125,28 +125,28 @@ pub(crate) fn poll(
     seat: &mut TableSeat,
     polling: Polling,
     alarm: Alarm,
-    spot: Spot,
+    cell: Cell,
     req: Req,
 ) -> Polled
     requires ours { IsOurs board.now seat.old }
-    requires at { IsAt board.now.layout.cells spot.cell spot.generation req }
+    requires at { IsAt board.now.layout.cells cell.index cell.generation req }
     requires clock { polling.clock ≡ clock_of (events_of seat.old.me.0.seen) }
     requires knows { KnowsAlarm (events_of seat.old.me.0.seen) req (Some alarm) }
     ensures seat { IsPollerSeat seat.new }
     ensures polls { Polls board.now polling.may_fire req (pass_of seat.old) (pass_of seat.new) result }
     ensures steps { Paid seat.old.me.0 seat.new.me.0 0 (cells_in board.now.layout.cells req.ring + 3) }
 {
-    let Some(deadline) = deadline_of(board, seat, spot, req) else {
+    let Some(deadline) = deadline_of(board, seat, cell, req) else {
         return Polled::NotArmed;
     };
     let Alarm::Alone(fails, count) = alarm else {
-        return poll_linked(board, seat, polling, spot, req, deadline);
+        return poll_linked(board, seat, polling, cell, req, deadline);
     };
     if deadline <= polling.clock {
-        return poll_expiry(board, seat, spot, req, deadline, fails);
+        return poll_expiry(board, seat, cell, req, deadline, fails);
     }
     if count == 0 {
         return Polled::Early;
     }
-    poll_count(board, seat, spot, req, deadline, count)
+    poll_count(board, seat, cell, req, deadline, count)
 }

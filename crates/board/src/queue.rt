@@ -6,9 +6,9 @@ ghost use Rattle.steps.specs.{IsFree, IsReaped, events_of, IsSameSeat, cells_in}
 ghost use Rattle.work.specs.Passes.{pass_of};
 ghost use Rattle.board.specs.declared.queue.Queue.{Queue as QueueOf};
 ghost use Rattle.board.specs.Calls.{Stepped};
-ghost use Rattle.board.specs.Queues.{nth, AreFree, HasLookedAt, IsQueue, IsFreeAfter, IsOver, IsSpot, LinkedAreReaped, RefusesRoom, SameQueue, Watched, WereReaped, continues};
+ghost use Rattle.board.specs.Queues.{nth, AreFree, HasLookedAt, IsQueue, IsFreeAfter, IsOver, IsCellOf, LinkedAreReaped, RefusesRoom, SameQueue, Watched, WereReaped, continues};
 ghost use Rattle.atomic_table.specs.declared.shared.Seat.{Seat};
-ghost use Rattle.steps.specs.declared.parcel.Thing.{Thing};
+ghost use Rattle.steps.specs.declared.slot.Thing.{Thing};
 ghost use Rattle.steps.specs.declared.view.View.{View};
 
 use crate::error::SubmitError;
@@ -17,7 +17,7 @@ use claim::{GENERATIONS, unpack_facts};
 use entry::Sqe;
 use history::Req;
 use steps::{TableSeat, Words, seat};
-use work::{Grid, Spot};
+use work::{Cell, Grid};
 
 /// The last generation of a cell's word. No request has it.
 const LAST_GENERATION: u64 = GENERATIONS as u64 - 1;
@@ -78,20 +78,20 @@ fn goes_on(word: u64, generation: u64) -> bool
 }
 
 /// Whether the ring's request has replied: it was reaped, or its claim word says so.
-fn has_replied(words: &Words, seat: &mut TableSeat, queue: &Queue, spot: Spot) -> bool
+fn has_replied(words: &Words, seat: &mut TableSeat, queue: &Queue, cell: Cell) -> bool
     requires queue { IsQueue seat.old queue.now }
     requires over { IsOver words.now.table_id seat.old.me.0.layout.cells seat.old }
-    requires spot { (k : ℕ) × (k < queue.now.next) × IsSpot seat.old.me.0.layout.cells queue.now.ring k spot }
+    requires cell { (k : ℕ) × (k < queue.now.next) × IsCellOf seat.old.me.0.layout.cells queue.now.ring k cell }
     ensures seat { IsSameSeat seat.old seat.new × (seat.new.me.1 ≡ seat.old.me.1) }
-    ensures looks { (n : ℕ) × (n ≤ 1) × Watched n seat.old.me.0 seat.new.me.0 × ((k : ℕ) → IsSpot seat.old.me.0.layout.cells queue.now.ring k spot → IsReaped (phase (events_of seat.old.me.0.seen) (nth queue.now.ring k)) → n ≡ 0) }
-    ensures replied { result ≡ true → (k : ℕ) → IsSpot seat.old.me.0.layout.cells queue.now.ring k spot → IsReplied (phase (events_of seat.new.me.0.seen) (nth queue.now.ring k)) }
-    ensures pending { result ≢ true → (k : ℕ) → IsSpot seat.old.me.0.layout.cells queue.now.ring k spot → (IsReplied (phase (events_of seat.new.me.0.seen) (nth queue.now.ring k)) → ⊥) × Stepped seat.old.me.0.layout.cells (nth queue.now.ring k) (pass_of seat.old) (pass_of seat.new) }
+    ensures looks { (n : ℕ) × (n ≤ 1) × Watched n seat.old.me.0 seat.new.me.0 × ((k : ℕ) → IsCellOf seat.old.me.0.layout.cells queue.now.ring k cell → IsReaped (phase (events_of seat.old.me.0.seen) (nth queue.now.ring k)) → n ≡ 0) }
+    ensures replied { result ≡ true → (k : ℕ) → IsCellOf seat.old.me.0.layout.cells queue.now.ring k cell → IsReplied (phase (events_of seat.new.me.0.seen) (nth queue.now.ring k)) }
+    ensures pending { result ≢ true → (k : ℕ) → IsCellOf seat.old.me.0.layout.cells queue.now.ring k cell → (IsReplied (phase (events_of seat.new.me.0.seen) (nth queue.now.ring k)) → ⊥) × Stepped seat.old.me.0.layout.cells (nth queue.now.ring k) (pass_of seat.old) (pass_of seat.new) }
 {
-    if u64::from(queue.ages[spot.number]) > spot.generation {
+    if u64::from(queue.ages[cell.number]) > cell.generation {
         return true;
     }
-    let word = seat::look(words, seat, spot.cell);
-    matches!(told(word, spot.generation), Phase::Done(_) | Phase::Gone)
+    let word = seat::look(words, seat, cell.index);
+    matches!(told(word, cell.generation), Phase::Done(_) | Phase::Gone)
 }
 
 /// Whether the chain of the first request that isn't known to be done has replied: then all up to its end are.
@@ -109,17 +109,17 @@ fn pass_chain(words: &Words, seat: &mut TableSeat, queue: &mut Queue, grid: &Gri
 {
     let mut k = queue.done;
     while k < queue.next {
-        let Some(spot) = grid.locate(Req {
+        let Some(cell) = grid.locate(Req {
             ring: queue.ring,
             k,
         }) else {
             unreachable!()
         };
-        if !has_replied(words, seat, queue, spot) {
+        if !has_replied(words, seat, queue, cell) {
             return false;
         }
         k += 1;
-        if !goes_on(queue.facts[spot.number], spot.generation) {
+        if !goes_on(queue.facts[cell.number], cell.generation) {
             queue.done = k;
             return true;
         }
@@ -137,13 +137,13 @@ fn look_at(words: &Words, seat: &mut TableSeat, queue: &Queue, grid: &Grid, k: u
     ensures looks { Watched 1 seat.old.me.0 seat.new.me.0 }
     ensures looked { HasLookedAt grid.now queue.now.ring (pass_of seat.old) (pass_of seat.new) }
 {
-    let Some(spot) = grid.locate(Req {
+    let Some(cell) = grid.locate(Req {
         ring: queue.ring,
         k,
     }) else {
         unreachable!()
     };
-    seat::look(words, seat, spot.cell);
+    seat::look(words, seat, cell.index);
 }
 
 /// Whether the chains of all requests before this one have replied.
@@ -183,13 +183,13 @@ fn first_unreaped(queue: &Queue, grid: &Grid, count: u64) -> Option<u64>
 {
     for i in 0..count {
         let k = queue.next + i;
-        let Some(spot) = grid.locate(Req {
+        let Some(cell) = grid.locate(Req {
             ring: queue.ring,
             k,
         }) else {
             unreachable!()
         };
-        if u64::from(queue.ages[spot.number]) != spot.generation {
+        if u64::from(queue.ages[cell.number]) != cell.generation {
             return Some(k);
         }
     }
@@ -205,17 +205,17 @@ fn is_known_free(queue: &Queue, grid: &Grid, k: u64) -> bool
     ensures free { result ≡ true → IsFreeAfter queue.now grid.now k }
     ensures fresh { result ≡ true → k / cells_in grid.now queue.now.ring < 16777215 }
 {
-    let Some(spot) = grid.locate(Req {
+    let Some(cell) = grid.locate(Req {
         ring: queue.ring,
         k,
     }) else {
         unreachable!()
     };
-    let generation = spot.generation;
-    if u64::from(queue.ages[spot.number]) != generation || generation >= LAST_GENERATION {
+    let generation = cell.generation;
+    if u64::from(queue.ages[cell.number]) != generation || generation >= LAST_GENERATION {
         return false;
     }
-    generation == 0 || !goes_on(queue.facts[spot.number], generation - 1)
+    generation == 0 || !goes_on(queue.facts[cell.number], generation - 1)
 }
 
 /// Whether what is kept of the cells of the ring's next requests, so many of them, says that they are free, and may have one more each.

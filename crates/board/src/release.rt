@@ -18,26 +18,26 @@ use gates::Row;
 use history::Req;
 use steps::facts::TIMEOUT;
 use steps::{TableSeat, seat};
-use work::Spot;
+use work::Cell;
 
 /// Whether a worker is to run the request, which is no LINK_TIMEOUT: its facts tell whether it is a TIMEOUT. They don't any more
 /// once it has replied.
-fn is_worked(board: &Board, seat: &mut TableSeat, spot: Spot, req: Req) -> bool
-    requires here { IsSubmitted board.now seat.old spot.cell spot.generation req }
+fn is_worked(board: &Board, seat: &mut TableSeat, cell: Cell, req: Req) -> bool
+    requires here { IsSubmitted board.now seat.old cell.index cell.generation req }
     ensures watched { Watched board.now seat.old seat.new }
     ensures worked { result ≡ true → IsOfKind (events_of seat.new.me.0.seen) req is_timeout false }
     ensures timer { result ≡ false → IsOfKind (events_of seat.new.me.0.seen) req is_timeout true ⊎ IsReplied (phase (events_of seat.new.me.0.seen) req) }
     ensures steps { Paid seat.old.me.0 seat.new.me.0 0 1 }
 {
-    match facts_in(board, seat, spot, req) {
+    match facts_in(board, seat, cell, req) {
         Some(facts) => facts.row != TIMEOUT,
         None => false,
     }
 }
 
 /// Moves the request, which is open and no LINK_TIMEOUT, to the workers, unless it is a TIMEOUT that still waits.
-fn hand_on(board: &Board, seat: &mut TableSeat, spot: Spot, req: Req, worked: bool) -> Released
-    requires here { IsSubmitted board.now seat.old spot.cell spot.generation req }
+fn hand_on(board: &Board, seat: &mut TableSeat, cell: Cell, req: Req, worked: bool) -> Released
+    requires here { IsSubmitted board.now seat.old cell.index cell.generation req }
     requires open { Open (events_of seat.old.me.0.seen) req }
     requires unlinked { IsLinkTimeout (events_of seat.old.me.0.seen) req → ⊥ }
     requires worked { worked ≡ true → IsOfKind (events_of seat.old.me.0.seen) req is_timeout false }
@@ -47,13 +47,13 @@ fn hand_on(board: &Board, seat: &mut TableSeat, spot: Spot, req: Req, worked: bo
     ensures steps { Paid seat.old.me.0 seat.new.me.0 0 1 }
 {
     if !worked {
-        if !is_held(board, seat, spot, req) {
+        if !is_held(board, seat, cell, req) {
             return Released::NotHeld;
         }
         return Released::Timer;
     }
     let words = &board.table.shared;
-    if seat::release(words, seat, spot.cell, spot.generation as u32) {
+    if seat::release(words, seat, cell.index, cell.generation as u32) {
         Released::Freed
     } else {
         Released::NotHeld
@@ -62,8 +62,8 @@ fn hand_on(board: &Board, seat: &mut TableSeat, spot: Spot, req: Req, worked: bo
 
 /// Moves the request, which is open, to the workers, unless it is a timer: a linked one, which has a target, or a TIMEOUT that
 /// still waits.
-fn free(board: &Board, seat: &mut TableSeat, row: &Row, spot: Spot, req: Req) -> Released
-    requires here { IsSubmitted board.now seat.old spot.cell spot.generation req }
+fn free(board: &Board, seat: &mut TableSeat, row: &Row, cell: Cell, req: Req) -> Released
+    requires here { IsSubmitted board.now seat.old cell.index cell.generation req }
     requires watches { Watches board.now.layout.cells seat.old.me.0.seen req row.now }
     requires open { (IsSevered (events_of seat.old.me.0.seen) req → ⊥) × Open (events_of seat.old.me.0.seen) req }
     ensures seat { IsPollerSeat seat.new }
@@ -73,13 +73,13 @@ fn free(board: &Board, seat: &mut TableSeat, row: &Row, spot: Spot, req: Req) ->
     if row.target_of(req.k).is_some() {
         return Released::Timer;
     }
-    let worked = is_worked(board, seat, spot, req);
-    hand_on(board, seat, spot, req, worked)
+    let worked = is_worked(board, seat, cell, req);
+    hand_on(board, seat, cell, req, worked)
 }
 
 /// Answers the request, of which an earlier member of its chain failed.
-fn sever(board: &Board, seat: &mut TableSeat, row: &Row, spot: Spot, req: Req) -> Released
-    requires here { IsSubmitted board.now seat.old spot.cell spot.generation req }
+fn sever(board: &Board, seat: &mut TableSeat, row: &Row, cell: Cell, req: Req) -> Released
+    requires here { IsSubmitted board.now seat.old cell.index cell.generation req }
     requires watches { Watches board.now.layout.cells seat.old.me.0.seen req row.now }
     requires severed { IsSevered (events_of seat.old.me.0.seen) req }
     ensures seat { IsPollerSeat seat.new }
@@ -88,7 +88,7 @@ fn sever(board: &Board, seat: &mut TableSeat, row: &Row, spot: Spot, req: Req) -
 {
     let fails = row.target_of(req.k).is_none();
     let words = &board.table.shared;
-    if seat::sever(words, seat, spot.cell, spot.generation as u32, fails) {
+    if seat::sever(words, seat, cell.index, cell.generation as u32, fails) {
         Released::Severed
     } else {
         Released::NotHeld
@@ -96,17 +96,17 @@ fn sever(board: &Board, seat: &mut TableSeat, row: &Row, spot: Spot, req: Req) -
 }
 
 /// Releases the request, which the row has.
-fn decide(board: &Board, seat: &mut TableSeat, row: &mut Row, spot: Spot, req: Req) -> Released
-    requires here { IsSubmitted board.now seat.old spot.cell spot.generation req }
+fn decide(board: &Board, seat: &mut TableSeat, row: &mut Row, cell: Cell, req: Req) -> Released
+    requires here { IsSubmitted board.now seat.old cell.index cell.generation req }
     requires watches { Watches board.now.layout.cells seat.old.me.0.seen req row.old }
     ensures seat { IsPollerSeat seat.new }
     ensures decides { Decides board.now req (pass_of seat.old) (pass_of seat.new) result }
     ensures knows { KnowsRow board.now.layout.cells seat.new.me.0.seen req.ring row.new }
     ensures steps { Paid seat.old.me.0 seat.new.me.0 0 (3 * waiting row.old + 1) }
 {
-    match gate(board, seat, row, spot, req) {
-        Gating::Severed => sever(board, seat, row, spot, req),
-        Gating::Open => free(board, seat, row, spot, req),
+    match gate(board, seat, row, cell, req) {
+        Gating::Severed => sever(board, seat, row, cell, req),
+        Gating::Open => free(board, seat, row, cell, req),
         Gating::Linked => Released::Timer,
         Gating::Shut => Released::Shut,
         Gating::Lost => Released::NotHeld,
@@ -114,8 +114,8 @@ fn decide(board: &Board, seat: &mut TableSeat, row: &mut Row, spot: Spot, req: R
 }
 
 /// Takes in what the row lacks up to the request. Whether that still waits.
-fn follow(board: &Board, seat: &mut TableSeat, row: &mut Row, spot: Spot, req: Req) -> bool
-    requires here { IsSubmitted board.now seat.old spot.cell spot.generation req }
+fn follow(board: &Board, seat: &mut TableSeat, row: &mut Row, cell: Cell, req: Req) -> bool
+    requires here { IsSubmitted board.now seat.old cell.index cell.generation req }
     requires knows { KnowsRow board.now.layout.cells seat.old.me.0.seen req.ring row.old }
     ensures watched { Watched board.now seat.old seat.new }
     ensures knows { KnowsRow board.now.layout.cells seat.new.me.0.seen req.ring row.new }
@@ -124,7 +124,7 @@ fn follow(board: &Board, seat: &mut TableSeat, row: &mut Row, spot: Spot, req: R
     ensures steps { Paid seat.old.me.0 seat.new.me.0 (3 * waiting row.new) (owed row.old (req.k + 1) + 1) }
 {
     take_in(board, seat, row, req);
-    is_held(board, seat, spot, req)
+    is_held(board, seat, cell, req)
 }
 
 /// Releases the request where all before it are plain, and it is too: it is open, whoever has replied, and the row needn't have
@@ -134,10 +134,10 @@ fn release_plain(
     board: &Board,
     seat: &mut TableSeat,
     row: &mut Row,
-    spot: Spot,
+    cell: Cell,
     req: Req,
 ) -> Option<Released>
-    requires here { IsSubmitted board.now seat.old spot.cell spot.generation req }
+    requires here { IsSubmitted board.now seat.old cell.index cell.generation req }
     requires knows { KnowsRow board.now.layout.cells seat.old.me.0.seen req.ring row.old }
     requires plain { req.k ≤ row.old.plain }
     ensures seat { IsPollerSeat seat.new }
@@ -149,13 +149,13 @@ fn release_plain(
     ensures step { IfNone result (Paid seat.old.me.0 seat.new.me.0 0 1) }
 {
     let _ = &board.grid;
-    let Some(facts) = facts_in(board, seat, spot, req) else {
+    let Some(facts) = facts_in(board, seat, cell, req) else {
         return None;
     };
     if !note_plain(row, facts, req) {
         return None;
     }
-    Some(hand_on(board, seat, spot, req, facts.row != TIMEOUT))
+    Some(hand_on(board, seat, cell, req, facts.row != TIMEOUT))
 }
 
 /// Releases the request: the row takes in what it lacks, and it passes what is in the way.
@@ -163,20 +163,20 @@ fn release_by_row(
     board: &Board,
     seat: &mut TableSeat,
     row: &mut Row,
-    spot: Spot,
+    cell: Cell,
     req: Req,
 ) -> Released
-    requires here { IsSubmitted board.now seat.old spot.cell spot.generation req }
+    requires here { IsSubmitted board.now seat.old cell.index cell.generation req }
     requires knows { KnowsRow board.now.layout.cells seat.old.me.0.seen req.ring row.old }
     ensures seat { IsPollerSeat seat.new }
     ensures decides { Decides board.now req (pass_of seat.old) (pass_of seat.new) result }
     ensures knows { KnowsRow board.now.layout.cells seat.new.me.0.seen req.ring row.new }
     ensures steps { Paid seat.old.me.0 seat.new.me.0 0 (owed row.old (req.k + 1) + 2) }
 {
-    if !follow(board, seat, row, spot, req) {
+    if !follow(board, seat, row, cell, req) {
         return Released::NotHeld;
     }
-    decide(board, seat, row, spot, req)
+    decide(board, seat, row, cell, req)
 }
 
 /// Releases the request, where all before it are plain: by itself if it is plain too, else by the row.
@@ -184,10 +184,10 @@ fn release_next(
     board: &Board,
     seat: &mut TableSeat,
     row: &mut Row,
-    spot: Spot,
+    cell: Cell,
     req: Req,
 ) -> Released
-    requires here { IsSubmitted board.now seat.old spot.cell spot.generation req }
+    requires here { IsSubmitted board.now seat.old cell.index cell.generation req }
     requires knows { KnowsRow board.now.layout.cells seat.old.me.0.seen req.ring row.old }
     requires plain { req.k ≤ row.old.plain }
     ensures seat { IsPollerSeat seat.new }
@@ -195,9 +195,9 @@ fn release_next(
     ensures knows { KnowsRow board.now.layout.cells seat.new.me.0.seen req.ring row.new }
     ensures steps { Paid seat.old.me.0 seat.new.me.0 0 (owed row.old (req.k + 1) + 3) }
 {
-    match release_plain(board, seat, row, spot, req) {
+    match release_plain(board, seat, row, cell, req) {
         Some(released) => released,
-        None => release_by_row(board, seat, row, spot, req),
+        None => release_by_row(board, seat, row, cell, req),
     }
 }
 
@@ -206,27 +206,27 @@ pub(crate) fn release(
     board: &Board,
     seat: &mut TableSeat,
     row: &mut Row,
-    spot: Spot,
+    cell: Cell,
     req: Req,
 ) -> Released
     requires ours { IsOurs board.now seat.old }
-    requires at { IsAt board.now.layout.cells spot.cell spot.generation req }
+    requires at { IsAt board.now.layout.cells cell.index cell.generation req }
     requires knows { KnowsRow board.now.layout.cells seat.old.me.0.seen req.ring row.old }
     ensures seat { IsPollerSeat seat.new }
     ensures decides { Decides board.now req (pass_of seat.old) (pass_of seat.new) result }
     ensures knows { KnowsRow board.now.layout.cells seat.new.me.0.seen req.ring row.new }
     ensures steps { Paid seat.old.me.0 seat.new.me.0 0 (4 * submits (events_of seat.new.me.0.seen) req.ring + 4) }
 {
-    if !is_held(board, seat, spot, req) {
+    if !is_held(board, seat, cell, req) {
         return Released::NotHeld;
     }
     if req.k < row.count() {
-        return decide(board, seat, row, spot, req);
+        return decide(board, seat, row, cell, req);
     }
     if row.plain() < req.k {
-        return release_by_row(board, seat, row, spot, req);
+        return release_by_row(board, seat, row, cell, req);
     }
-    release_next(board, seat, row, spot, req)
+    release_next(board, seat, row, cell, req)
 }
 
 impl Board {
@@ -246,7 +246,7 @@ impl Board {
         ensures alone { (q : Req) → (result ≢ Freed) ⊎ (same req q ≡ false) → freed poller.new.view.seen q ≡ freed poller.old.view.seen q }
     {
         match self.grid.locate(req) {
-            Some(spot) => poller.release(self, spot, req),
+            Some(cell) => poller.release(self, cell, req),
             None => Released::NotHeld,
         }
     }

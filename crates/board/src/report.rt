@@ -4,8 +4,8 @@ ghost use mathlib.Core.Option.{some};
 ghost use lib.ListN.{get_elem?};
 ghost use Rattle.history.specs.Legal.{Setup};
 ghost use Rattle.steps.specs.declared.line.Line.{Line};
-ghost use Rattle.steps.specs.declared.parcel.Parcel.{Parcel};
-ghost use Rattle.steps.specs.declared.parcel.Thing.TheVariants.{Full};
+ghost use Rattle.steps.specs.declared.slot.Submission.{Submission};
+ghost use Rattle.steps.specs.declared.slot.Thing.TheVariants.{Full};
 ghost use Rattle.steps.specs.{Ages, Shown};
 ghost use Rattle.board.specs.Calls.{IsWord, IsPresent};
 ghost use Rattle.board.specs.LastCells.{Reports, IsReplyOf};
@@ -16,7 +16,7 @@ use crate::phase::{Phase, told};
 use claim::unpack;
 use entry::Cqe;
 use history::Req;
-use steps::{Parcel, Thing};
+use steps::{Submission, Thing};
 use work::Grid;
 
 /// The reply to a request that the end cut off (ECANCELED).
@@ -33,11 +33,11 @@ fn is_present(phase: Phase) -> bool
     }
 }
 
-/// The line of a request that stands so, with its parcel.
-fn line_of(req: Req, phase: Phase, parcel: Parcel) -> (Completion, bool)
+/// The line of a request that stands so, with its submission.
+fn line_of(req: Req, phase: Phase, submission: Submission) -> (Completion, bool)
     ensures req { result.0.req ≡ req }
-    ensures user_data { result.0.cqe.user_data ≡ parcel.sqe.user_data }
-    ensures buffer { result.0.buffer ≡ parcel.buffer }
+    ensures user_data { result.0.cqe.user_data ≡ submission.sqe.user_data }
+    ensures buffer { result.0.buffer ≡ submission.buffer }
     ensures reply { IsReplyOf phase result.0.cqe.res result.1 }
 {
     let (res, cut) = match phase {
@@ -45,30 +45,30 @@ fn line_of(req: Req, phase: Phase, parcel: Parcel) -> (Completion, bool)
         _ => (CUT, true),
     };
     let cqe = Cqe {
-        user_data: parcel.sqe.user_data(),
+        user_data: submission.sqe.user_data(),
         res,
     };
     let completion = Completion {
         req,
         cqe,
-        buffer: parcel.buffer,
+        buffer: submission.buffer,
     };
     (completion, cut)
 }
 
-/// Takes the parcel out of a cell's slot, which has one.
-fn take_parcel(slots: &mut Vec<Option<Thing>>, cell: usize) -> Parcel
-    requires { (p : Parcel) × (get_elem? slots.old.items cell ≡ some (Some (Full p))) }
-    ensures parcel { get_elem? slots.old.items cell ≡ some (Some (Full result)) }
+/// Takes the submission out of a cell's slot, which has one.
+fn take_submission(slots: &mut Vec<Option<Thing>>, cell: usize) -> Submission
+    requires { (p : Submission) × (get_elem? slots.old.items cell ≡ some (Some (Full p))) }
+    ensures submission { get_elem? slots.old.items cell ≡ some (Some (Full result)) }
     ensures slots { slots.new.items ≡ slice_set slots.old.items cell None }
 {
     let Some(thing) = slots[cell].take() else {
         unreachable!()
     };
-    let Thing::Full(parcel) = thing else {
+    let Thing::Full(submission) = thing else {
         unreachable!()
     };
-    parcel
+    submission
 }
 
 /// The generation that a claim word tells.
@@ -89,15 +89,15 @@ fn add_line(grid: &Grid, last_cells: &mut LastCells, lines: &mut Vec<(Completion
     requires so_far { (s : Setup) × (j : List Line) × Reports s grid.now j last_cells.old.claims.items last_cells.old.slots.items lines.old.items (vec_capacity lines.old) req }
     ensures { (s : Setup) (j : List Line) → Reports s grid.now j last_cells.old.claims.items last_cells.old.slots.items lines.old.items (vec_capacity lines.old) req → Reports s grid.now j last_cells.new.claims.items last_cells.new.slots.items lines.new.items (vec_capacity lines.new) (record { ring = req.ring; k = req.k + 1 }) }
 {
-    let Some(spot) = grid.locate(req) else {
+    let Some(cell) = grid.locate(req) else {
         unreachable!()
     };
-    let phase = told(last_cells.claims[spot.cell], spot.generation);
+    let phase = told(last_cells.claims[cell.index], cell.generation);
     if !is_present(phase) {
         return;
     }
-    let parcel = take_parcel(&mut last_cells.slots, spot.cell);
-    let Ok(()) = lines.push(line_of(req, phase, parcel)) else {
+    let submission = take_submission(&mut last_cells.slots, cell.index);
+    let Ok(()) = lines.push(line_of(req, phase, submission)) else {
         unreachable!()
     };
 }
@@ -108,10 +108,10 @@ fn add_ring(grid: &Grid, last_cells: &mut LastCells, lines: &mut Vec<(Completion
     requires so_far { (s : Setup) × (j : List Line) × Reports s grid.now j last_cells.old.claims.items last_cells.old.slots.items lines.old.items (vec_capacity lines.old) (record { ring = ring; k = 0 }) }
     ensures { (s : Setup) (j : List Line) → Reports s grid.now j last_cells.old.claims.items last_cells.old.slots.items lines.old.items (vec_capacity lines.old) (record { ring = ring; k = 0 }) → Reports s grid.now j last_cells.new.claims.items last_cells.new.slots.items lines.new.items (vec_capacity lines.new) (record { ring = ring + 1; k = 0 }) }
 {
-    let Some(spot) = grid.locate(Req { ring, k: 0 }) else {
+    let Some(cell) = grid.locate(Req { ring, k: 0 }) else {
         unreachable!()
     };
-    let age = age_of(last_cells.claims[spot.cell]);
+    let age = age_of(last_cells.claims[cell.index]);
     let cells = grid.cells_in(usize::from(ring));
     for k in age.saturating_sub(2) * cells..(age + 1) * cells {
         add_line(grid, last_cells, lines, Req { ring, k });

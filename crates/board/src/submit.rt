@@ -13,7 +13,7 @@ use crate::error::SubmitError;
 use crate::submitter::Submitter;
 use entry::Sqe;
 use history::Req;
-use steps::Parcel;
+use steps::Submission;
 
 impl Board {
     /// Submits a batch of one entry with its buffer.
@@ -39,7 +39,7 @@ impl Board {
         }
         Ok(self.submit_next(
             submitter,
-            Parcel {
+            Submission {
                 sqe,
                 buffer,
                 last: true,
@@ -82,27 +82,27 @@ impl Board {
         let mut left = batch.into_iter();
         while let Some((sqe, buffer)) = left.next() {
             let last = left.len() == 0;
-            let parcel = Parcel { sqe, buffer, last };
-            self.submit_next(submitter, parcel);
+            let submission = Submission { sqe, buffer, last };
+            self.submit_next(submitter, submission);
         }
     }
 
     /// Submits the ring's next request, whose cell is free.
     #[inline(always)]
-    fn submit_next(&self, submitter: &mut Submitter, parcel: Parcel) -> Req
+    fn submit_next(&self, submitter: &mut Submitter, submission: Submission) -> Req
         requires of { IsOf self.now submitter.old }
         requires free { (ring : ℕ) → submitter.old.view.role ≡ Role.Submitter ring → IsFree self.now.layout.cells (seen_of submitter.old) (next_of submitter.old ring) × ((next_of submitter.old ring).k / cells_in self.now.layout.cells ring < 16777215) }
-        requires fits { Fits parcel.sqe parcel.buffer.items }
+        requires fits { Fits submission.sqe submission.buffer.items }
         ensures role { submitter.old.view.role ≡ Role.Submitter result.ring }
-        ensures next { (ring : ℕ) → submitter.old.view.role ≡ Role.Submitter ring → (submits (seen_of submitter.new) ring ≡ submits (seen_of submitter.old) ring + 1) × (before_in (seen_of submitter.new) (nth ring (submits (seen_of submitter.old) ring + 1)) ≡ Some (record { entry = parcel.sqe; bytes = parcel.buffer.items; last = parcel.last })) }
-        ensures submitted { (ring : ℕ) → submitter.old.view.role ≡ Role.Submitter ring → (result ≡ next_of submitter.old ring) × Goes self.now submitter.old (Submit result parcel.sqe parcel.buffer.items parcel.last ∷ []) submitter.new }
-        ensures steps { Took submitter.old.view submitter.new.view (steps_for parcel.sqe) }
+        ensures next { (ring : ℕ) → submitter.old.view.role ≡ Role.Submitter ring → (submits (seen_of submitter.new) ring ≡ submits (seen_of submitter.old) ring + 1) × (before_in (seen_of submitter.new) (nth ring (submits (seen_of submitter.old) ring + 1)) ≡ Some (record { entry = submission.sqe; bytes = submission.buffer.items; last = submission.last })) }
+        ensures submitted { (ring : ℕ) → submitter.old.view.role ≡ Role.Submitter ring → (result ≡ next_of submitter.old ring) × Goes self.now submitter.old (Submit result submission.sqe submission.buffer.items submission.last ∷ []) submitter.new }
+        ensures steps { Took submitter.old.view submitter.new.view (steps_for submission.sqe) }
     {
         let req = submitter.next_request();
-        let Some(spot) = self.grid.locate(req) else {
+        let Some(cell) = self.grid.locate(req) else {
             unreachable!()
         };
-        submitter.submit(&self.table.shared, spot, parcel);
+        submitter.submit(&self.table.shared, cell, submission);
         req
     }
 }

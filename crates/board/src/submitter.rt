@@ -5,10 +5,10 @@ ghost use Rattle.history.specs.declared.req.Req.{Req};
 ghost use Rattle.history.specs.declared.event.Event.TheVariants.{Submit, Reap};
 ghost use Rattle.history.specs.{Cause, data_of, submits, Fits as FitsEntry};
 ghost use Rattle.steps.specs.declared.line.Line.TheVariants.{Did, Lent};
-ghost use Rattle.steps.specs.declared.parcel.Parcel.{Parcel};
+ghost use Rattle.steps.specs.declared.slot.Submission.{Submission};
 ghost use Rattle.steps.specs.declared.view.Role.{Role};
 ghost use Rattle.steps.specs.declared.view.Role.TheVariants.{Lending};
-ghost use Rattle.steps.specs.{IsFree, claim_at, ring_of, place_of, request_at, cells_in, total, facts_at, word_of, cause_bits, IsParcel, words_of, notes_of, words_in, Looks, Shown, IsStep, IsTwoSteps, AreSteps, ExtendsTwice, ExtendsNoted, IsDone};
+ghost use Rattle.steps.specs.{IsFree, claim_at, ring_of, place_of, request_at, cells_in, total, facts_at, word_of, cause_bits, IsSubmission, words_of, notes_of, words_in, Looks, Shown, IsStep, IsTwoSteps, AreSteps, ExtendsTwice, ExtendsNoted, IsDone};
 ghost use Rattle.work.specs.Passes.{pass_of, seen_of, CanReach};
 ghost use Rattle.board.specs.{next_of, IsSubmitterSeat, IsNextCell};
 ghost use Rattle.board.specs.Queues.{AreFree, LinkedAreReaped, RefusesRoom, Watched};
@@ -18,8 +18,8 @@ use crate::queue::{self, Queue};
 use claim::with_outcome;
 use history::Req;
 use std::marker::Model;
-use steps::{Parcel, TableSeat, Words, seat, submitter, table};
-use work::{Grid, Messenger, Pass, Spot};
+use steps::{Submission, TableSeat, Words, seat, submitter, table};
+use work::{Cell, Grid, Messenger, Pass};
 
 /// The pass of the submitter of one ring. Contracts see its table and what it knows.
 #[derive(Drop)]
@@ -115,27 +115,27 @@ impl Submitter {
 
     /// Submits its next request, whose cell is free.
     #[inline(always)]
-    pub(crate) fn submit(&mut self, words: &Words, spot: Spot, parcel: Parcel)
-        requires reach { CanReach words.now.table_id self.old spot.cell }
+    pub(crate) fn submit(&mut self, words: &Words, cell: Cell, submission: Submission)
+        requires reach { CanReach words.now.table_id self.old cell.index }
         requires parts { 0 < self.old.view.parts }
-        requires small { spot.generation < 16777215 }
-        requires next { IsNextCell self.old spot.cell spot.number spot.generation }
-        requires free { IsFree self.old.view.layout.cells (seen_of self.old) (request_at self.old.view.layout.cells spot.cell spot.generation) }
-        requires buffer { FitsEntry parcel.sqe parcel.buffer.items }
+        requires small { cell.generation < 16777215 }
+        requires next { IsNextCell self.old cell.index cell.number cell.generation }
+        requires free { IsFree self.old.view.layout.cells (seen_of self.old) (request_at self.old.view.layout.cells cell.index cell.generation) }
+        requires buffer { FitsEntry submission.sqe submission.buffer.items }
         ensures table { self.new.table ≡ self.old.table }
-        ensures submits { let r : Req = request_at self.old.view.layout.cells spot.cell spot.generation in (facts : ℕ) × ExtendsNoted self.old.view r (facts_at spot.cell, facts) (notes_of spot.cell parcel.sqe) (Did (Submit r parcel.sqe parcel.buffer.items parcel.last)) (Role.Submitter r.ring) self.new.view }
-        ensures steps { AreSteps (facts_at spot.cell ∷ words_in (notes_of spot.cell parcel.sqe)) (claim_at spot.cell) self.old.view self.new.view }
+        ensures submits { let r : Req = request_at self.old.view.layout.cells cell.index cell.generation in (facts : ℕ) × ExtendsNoted self.old.view r (facts_at cell.index, facts) (notes_of cell.index submission.sqe) (Did (Submit r submission.sqe submission.buffer.items submission.last)) (Role.Submitter r.ring) self.new.view }
+        ensures steps { AreSteps (facts_at cell.index ∷ words_in (notes_of cell.index submission.sqe)) (claim_at cell.index) self.old.view self.new.view }
     {
-        let hosted = queue::hosts(&parcel.sqe, parcel.last);
+        let hosted = queue::hosts(&submission.sqe, submission.last);
         let facts = submitter::submit(
             words,
             &mut self.seat,
-            spot.cell,
-            spot.generation as u32,
-            parcel,
+            cell.index,
+            cell.generation as u32,
+            submission,
             self.queue.hosted,
         );
-        self.queue.go_on(spot.number, facts, hosted);
+        self.queue.go_on(cell.number, facts, hosted);
     }
 
     /// Takes the user_data and the buffer, with the data, of the request whose claim word was seen to be `done`, and ends the request.
@@ -143,28 +143,35 @@ impl Submitter {
     pub(crate) fn reap(
         &mut self,
         words: &Words,
-        spot: Spot,
+        cell: Cell,
         done: u64,
         failed: bool,
     ) -> (u64, Vec<u8>)
-        requires reach { CanReach words.now.table_id self.old spot.cell }
+        requires reach { CanReach words.now.table_id self.old cell.index }
         requires parts { 0 < self.old.view.parts }
-        requires small { spot.generation + 1 < 16777216 }
-        requires number { spot.number ≡ place_of self.old.view.layout.cells spot.cell }
-        requires mine { self.old.view.role ≡ Role.Submitter (ring_of self.old.view.layout.cells spot.cell) }
-        requires done { IsDone self.old.view.seen (request_at self.old.view.layout.cells spot.cell spot.generation) spot.generation done }
+        requires small { cell.generation + 1 < 16777216 }
+        requires number { cell.number ≡ place_of self.old.view.layout.cells cell.index }
+        requires mine { self.old.view.role ≡ Role.Submitter (ring_of self.old.view.layout.cells cell.index) }
+        requires done { IsDone self.old.view.seen (request_at self.old.view.layout.cells cell.index cell.generation) cell.generation done }
         requires failed { (c : Cause) (f : Bool) (g p : ℕ) → g < 16777216 → p < 4294967296 → done ≡ word_of Done (cause_bits c f) g p → failed ≡ f }
-        requires shown { Shown self.old.view.layout.cells self.old.view.seen spot.cell done }
+        requires shown { Shown self.old.view.layout.cells self.old.view.seen cell.index done }
         ensures table { self.new.table ≡ self.old.table }
-        ensures reaps { let r : Req = request_at self.old.view.layout.cells spot.cell spot.generation in (outcome : ℕ) × ExtendsTwice self.old.view (Lent r (facts_at spot.cell) outcome) (Lending r) (Did (Reap r)) (Role.Submitter r.ring) self.new.view }
-        ensures steps { IsTwoSteps (facts_at spot.cell) (claim_at spot.cell) self.old.view self.new.view }
-        ensures parcel { (p : Parcel) × IsParcel self.new.view.seen (request_at self.old.view.layout.cells spot.cell spot.generation) (data_of (seen_of self.old) (request_at self.old.view.layout.cells spot.cell spot.generation)) p × (result.0 ≡ p.sqe.user_data) × (result.1 ≡ p.buffer) }
+        ensures reaps { let r : Req = request_at self.old.view.layout.cells cell.index cell.generation in (outcome : ℕ) × ExtendsTwice self.old.view (Lent r (facts_at cell.index) outcome) (Lending r) (Did (Reap r)) (Role.Submitter r.ring) self.new.view }
+        ensures steps { IsTwoSteps (facts_at cell.index) (claim_at cell.index) self.old.view self.new.view }
+        ensures submission { (p : Submission) × IsSubmission self.new.view.seen (request_at self.old.view.layout.cells cell.index cell.generation) (data_of (seen_of self.old) (request_at self.old.view.layout.cells cell.index cell.generation)) p × (result.0 ≡ p.sqe.user_data) × (result.1 ≡ p.buffer) }
     {
-        let outcome = with_outcome(self.queue.facts[spot.number], failed);
-        let generation = spot.generation as u32;
-        let returned = submitter::reap(words, &mut self.seat, spot.cell, generation, done, outcome);
-        self.queue.facts[spot.number] = outcome;
-        self.queue.ages[spot.number] += 1;
+        let outcome = with_outcome(self.queue.facts[cell.number], failed);
+        let generation = cell.generation as u32;
+        let returned = submitter::reap(
+            words,
+            &mut self.seat,
+            cell.index,
+            generation,
+            done,
+            outcome,
+        );
+        self.queue.facts[cell.number] = outcome;
+        self.queue.ages[cell.number] += 1;
         returned
     }
 }

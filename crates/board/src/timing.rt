@@ -44,7 +44,7 @@ impl Board {
         ensures alone { (q : Request) → freed poller.new.view.seen q ≡ freed poller.old.view.seen q }
     {
         match self.grid.locate(req) {
-            Some(spot) => poller.arm(self, spot, req),
+            Some(cell) => poller.arm(self, cell, req),
             None => Arming::NotHeld,
         }
     }
@@ -60,7 +60,7 @@ impl Board {
         ensures alone { (q : Request) → freed poller.new.view.seen q ≡ freed poller.old.view.seen q }
     {
         match self.grid.locate(req) {
-            Some(spot) => poller.expire(self, spot, req),
+            Some(cell) => poller.expire(self, cell, req),
             None => Expiry::NotArmed,
         }
     }
@@ -79,7 +79,7 @@ impl Board {
         ensures alone { (q : Request) → freed poller.new.view.seen q ≡ freed poller.old.view.seen q }
     {
         match self.grid.locate(req) {
-            Some(spot) => poller.count(self, spot, req),
+            Some(cell) => poller.count(self, cell, req),
             None => Counting::NotArmed,
         }
     }
@@ -98,7 +98,7 @@ impl Board {
         ensures alone { (q : Request) → freed poller.new.view.seen q ≡ freed poller.old.view.seen q }
     {
         match self.grid.locate(req) {
-            Some(spot) => poller.fire(self, spot, req),
+            Some(cell) => poller.fire(self, cell, req),
             None => Firing::NotArmed,
         }
     }
@@ -115,7 +115,7 @@ impl Board {
         ensures alone { (q : Request) → freed poller.new.view.seen q ≡ freed poller.old.view.seen q }
     {
         match self.grid.locate(req) {
-            Some(spot) => poller.settle(self, spot, req),
+            Some(cell) => poller.settle(self, cell, req),
             None => Settling::NotArmed,
         }
     }
@@ -140,7 +140,7 @@ impl Board {
         ensures alone { (q : Request) → freed poller.new.view.seen q ≡ freed poller.old.view.seen q }
     {
         match self.grid.locate(req) {
-            Some(spot) => poller.poll_timer(self, spot, req, may_fire),
+            Some(cell) => poller.poll_timer(self, cell, req, may_fire),
             None => Polled::NotArmed,
         }
     }

@@ -3,10 +3,10 @@ ghost use Rattle.std.specs.Prelude.{◌≡◌, All, IfOk, IfErr, IfSome};
 ghost use Rattle.work.specs.Board.{IsOf};
 ghost use Rattle.cases.specs.Cast.{AreIn, IsCast, IsTroop};
 
-use crate::calls::{completed, park, told};
+use crate::calls::{completed, park, printed};
 use crate::cast::{Away, Cast, Troop};
 use crate::judge::{Judge, call_of};
-use crate::told::{Slip, Told, said, shown};
+use crate::printed::{Printed, Slip, said, shown};
 use crate::words::Words;
 use board::{Board, BoardError, Pass, Report, RingShape, Shape, Unfinished, Worker};
 use std::alloc::{AllocError, Global};
@@ -127,8 +127,8 @@ fn play_lines<'a, R: AllocGlobal + Print>(
 {
     for line in lines.split('\n') {
         if let Some(call) = call_of(line) {
-            let told = told(board, cast, &mut Words::of(judge.alloc(), call));
-            judge.hear("", line, told)?;
+            let printed = printed(board, cast, &mut Words::of(judge.alloc(), call));
+            judge.hear("", line, printed)?;
         }
     }
     Ok(())
@@ -181,15 +181,15 @@ fn last_if<P: Pass>(board: &Board, passes: &mut Vec<P>, is_meant: bool) -> Optio
 }
 
 /// What a board reported.
-fn told_of_report(alloc: Global, report: &Report) -> Told {
+fn printed_of_report(alloc: Global, report: &Report) -> Printed {
     let count = report.lines().len();
-    let mut told = format!(in alloc; "{count} left")?;
+    let mut printed = format!(in alloc; "{count} left")?;
     for (completion, is_cut) in report.lines() {
-        told.push_str("/")?;
-        told.push_str(completed(alloc, completion)?.as_str())?;
-        told.push_str(if *is_cut { " cut" } else { "" })?;
+        printed.push_str("/")?;
+        printed.push_str(completed(alloc, completion)?.as_str())?;
+        printed.push_str(if *is_cut { " cut" } else { "" })?;
     }
-    Ok(told)
+    Ok(printed)
 }
 
 /// Ends the board with the passes of the troop, of which the words may leave one out, or turn the submitters round. Tells how it
@@ -199,7 +199,7 @@ fn end(
     board: Board,
     troop: Troop,
     words: &str,
-) -> Result<(Told, Option<(Board, Troop)>), AllocError>
+) -> Result<(Printed, Option<(Board, Troop)>), AllocError>
     requires { IsTroop board troop }
     ensures { IfOk result (λ t. IfSome t.1 (λ s. IsTroop s.0 s.1)) }
 {
@@ -214,7 +214,7 @@ fn end(
     let submitter = last_if(&board, &mut submitters, words == " without submitter");
     let worker = last_if(&board, &mut workers, words == " without worker");
     match board.finish(alloc, poller, submitters, workers) {
-        Ok(report) => Ok((told_of_report(alloc, &report), None)),
+        Ok(report) => Ok((printed_of_report(alloc, &report), None)),
         Err(unfinished) => {
             let Unfinished {
                 error,
@@ -252,8 +252,8 @@ fn play_on<R: AllocGlobal + Print>(
     let (mut board, mut troop) = (board, troop);
     for part in parts {
         let (line, lines) = first_line(part);
-        let (told, still) = end(judge.alloc(), board, troop, call_of(line).unwrap_or(""))?;
-        judge.hear("finish", line, told)?;
+        let (printed, still) = end(judge.alloc(), board, troop, call_of(line).unwrap_or(""))?;
+        judge.hear("finish", line, printed)?;
         let Some((left, passes)) = still else {
             return Ok(());
         };

@@ -1,8 +1,8 @@
 //! Commands over streams that move a few bytes at a call, or break.
 ghost use Rattle.std.specs.Prelude.{◌≤◌, IfOk};
 
+use crate::printed::{Printed, Slip};
 use crate::runs::{HISTORY, Machine, folded, list, unfolded};
-use crate::told::{Slip, Told};
 use crate::words::Words;
 use commands::{Console, perform};
 use std::alloc::{AllocError, Global};
@@ -131,7 +131,7 @@ impl Read for Source {
 
 /// The status of a command one of whose streams breaks, what it wrote, and how many calls that stream got: the writer of `outcomes`,
 /// the reader of its script, or the reader of the table of a history.
-pub fn told<R: Machine>(rt: &R, kind: &str, text: &str, how: &str) -> Told {
+pub fn printed<R: Machine>(rt: &R, kind: &str, text: &str, how: &str) -> Printed {
     let alloc = rt.alloc();
     let manner = Manner::of(&mut Words::of(alloc, how))?;
     let (writes, reads, finds) = match kind {

@@ -5,21 +5,21 @@ ghost use Rattle.cases.specs.Cast.{AreIn, IsCast};
 
 use crate::cast::{Away, Cast};
 use crate::entries::entry_of;
-use crate::told::{Digits, Named, Slip, Told, debugged, said, shown};
+use crate::printed::{Digits, Named, Printed, Slip, debugged, said, shown};
 use crate::words::{Name, Words};
 use board::{Board, Busy, Completion, Phase, Poller, Ran, Submitter, Worker};
 use entry::Sqe;
 use history::Req;
 use std::alloc::Global;
 
-/// What is told where the pass doesn't exist, or runs a request.
+/// What is printed where the pass doesn't exist, or runs a request.
 const NO_PASS: &str = "no such pass";
 
 /// The most entries that a `batch` line may have.
 const ENTRIES: u32 = 256;
 
 /// A completion with its buffer.
-pub fn completed(alloc: Global, completion: &Completion) -> Told {
+pub fn completed(alloc: Global, completion: &Completion) -> Printed {
     let Completion { req, cqe, buffer } = completion;
     let (req, buffer) = (Named(*req), Digits(buffer));
     Ok(format!(in alloc; "{req} {cqe} buffer {buffer}")?)
@@ -142,7 +142,7 @@ fn meet(board: &Board, cast: &mut Cast<'_>, first: Name, second: Name) -> Option
 }
 
 /// Submits an entry with its buffer.
-fn submit(board: &Board, submitter: &mut Submitter, words: &mut Words<'_>) -> Told
+fn submit(board: &Board, submitter: &mut Submitter, words: &mut Words<'_>) -> Printed
     requires { IsOf board.now submitter.old }
     ensures { IsOf board.now submitter.new }
 {
@@ -174,7 +174,7 @@ fn batch_of(words: &mut Words<'_>) -> Result<Vec<(Sqe, Vec<u8>)>, Slip> {
 }
 
 /// Submits a batch.
-fn submit_batch(board: &Board, submitter: &mut Submitter, words: &mut Words<'_>) -> Told
+fn submit_batch(board: &Board, submitter: &mut Submitter, words: &mut Words<'_>) -> Printed
     requires { IsOf board.now submitter.old }
     ensures { IsOf board.now submitter.new }
 {
@@ -183,18 +183,23 @@ fn submit_batch(board: &Board, submitter: &mut Submitter, words: &mut Words<'_>)
     match board.submit_batch(submitter, batch) {
         Ok(first) => shown(alloc, &Named(first)),
         Err((error, batch)) => {
-            let mut told = format!(in alloc; "{error}, buffers")?;
+            let mut printed = format!(in alloc; "{error}, buffers")?;
             for (_, buffer) in &batch {
                 let buffer = Digits(buffer);
-                told.push_str(format!(in alloc; " {buffer}")?.as_str())?;
+                printed.push_str(format!(in alloc; " {buffer}")?.as_str())?;
             }
-            Ok(told)
+            Ok(printed)
         }
     }
 }
 
 /// The call of the submitter of a ring: `next`, `submit`, `batch` or `reap`.
-fn of_submitter(board: &Board, submitter: &mut Submitter, kind: &str, words: &mut Words<'_>) -> Told
+fn of_submitter(
+    board: &Board,
+    submitter: &mut Submitter,
+    kind: &str,
+    words: &mut Words<'_>,
+) -> Printed
     requires { IsOf board.now submitter.old }
     ensures { IsOf board.now submitter.new }
 {
@@ -218,7 +223,7 @@ fn of_submitter(board: &Board, submitter: &mut Submitter, kind: &str, words: &mu
 }
 
 /// The call of the poller: `tick`, `release`, `arm`, `expire`, `count`, `fire` or `settle`.
-fn of_poller(board: &Board, poller: &mut Poller, kind: &str, words: &mut Words<'_>) -> Told
+fn of_poller(board: &Board, poller: &mut Poller, kind: &str, words: &mut Words<'_>) -> Printed
     requires { IsOf board.now poller.old }
     ensures { IsOf board.now poller.new }
 {
@@ -276,24 +281,24 @@ pub fn park(board: &Board, cast: &mut Cast<'_>, number: usize) -> &'static str
 }
 
 /// What a run answered, and what it ended besides its own request, in the order of the numbers.
-fn told_of_run(alloc: Global, ran: Ran, took: &[Req]) -> Told {
+fn printed_of_run(alloc: Global, ran: Ran, took: &[Req]) -> Printed {
     let cqe = match ran {
         Ran::Replied { cqe } => cqe,
         Ran::Parked(why) => return Ok(format!(in alloc; "parked: {why:?}")?),
     };
-    let mut told = format!(in alloc; "{cqe}")?;
+    let mut printed = format!(in alloc; "{cqe}")?;
     if !took.is_empty() {
-        told.push_str(", took")?;
+        printed.push_str(", took")?;
     }
     for req in took {
         let req = Named(*req);
-        told.push_str(format!(in alloc; " {req}")?.as_str())?;
+        printed.push_str(format!(in alloc; " {req}")?.as_str())?;
     }
-    Ok(told)
+    Ok(printed)
 }
 
 /// The worker answers its request.
-fn run(alloc: Global, board: &Board, cast: &mut Cast<'_>, number: usize) -> Told
+fn run(alloc: Global, board: &Board, cast: &mut Cast<'_>, number: usize) -> Printed
     requires { IsCast board.now cast.old }
     ensures { IsCast board.now cast.new }
 {
@@ -301,13 +306,13 @@ fn run(alloc: Global, board: &Board, cast: &mut Cast<'_>, number: usize) -> Told
         return said(alloc, NO_PASS);
     };
     let (worker, ran) = busy.run();
-    let told = told_of_run(alloc, ran, worker.took());
+    let printed = printed_of_run(alloc, ran, worker.took());
     put_idle(board, &mut cast.idle, number, worker);
-    told
+    printed
 }
 
 /// Releases, begins and runs so many requests of a ring, up to the first that doesn't reply: `serve WORKER REQUEST COUNT`.
-fn serve<'a>(board: &'a Board, cast: &mut Cast<'a>, words: &mut Words<'_>) -> Told
+fn serve<'a>(board: &'a Board, cast: &mut Cast<'a>, words: &mut Words<'_>) -> Printed
     requires { IsCast board.now cast.old }
     ensures { IsCast board.now cast.new }
 {
@@ -316,8 +321,8 @@ fn serve<'a>(board: &'a Board, cast: &mut Cast<'a>, words: &mut Words<'_>) -> To
     for served in 0..count {
         board.release(&mut cast.poller, req);
         begin(board, cast, number, req);
-        let told = run(words.alloc, board, cast, number)?;
-        if !told.as_str().starts_with("ud ") {
+        let printed = run(words.alloc, board, cast, number)?;
+        if !printed.as_str().starts_with("ud ") {
             return Ok(format!(in words.alloc; "{served} replied")?);
         }
         req.k = req.k.wrapping_add(1);
@@ -326,7 +331,12 @@ fn serve<'a>(board: &'a Board, cast: &mut Cast<'a>, words: &mut Words<'_>) -> To
 }
 
 /// The call of a worker: `begin`, `park`, `run` or `serve`.
-fn of_worker<'a>(board: &'a Board, cast: &mut Cast<'a>, kind: &str, words: &mut Words<'_>) -> Told
+fn of_worker<'a>(
+    board: &'a Board,
+    cast: &mut Cast<'a>,
+    kind: &str,
+    words: &mut Words<'_>,
+) -> Printed
     requires { IsCast board.now cast.old }
     ensures { IsCast board.now cast.new }
 {
@@ -347,7 +357,7 @@ fn of_worker<'a>(board: &'a Board, cast: &mut Cast<'a>, kind: &str, words: &mut 
 }
 
 /// Makes the call of a line.
-pub fn told<'a>(board: &'a Board, cast: &mut Cast<'a>, words: &mut Words<'_>) -> Told
+pub fn printed<'a>(board: &'a Board, cast: &mut Cast<'a>, words: &mut Words<'_>) -> Printed
     requires { IsCast board.now cast.old }
     ensures { IsCast board.now cast.new }
 {

@@ -1,12 +1,12 @@
 //! Runs of scripts that were drawn at random.
+use crate::printed::{Printed, Slip, said};
 use crate::runs::{Machine, answered, has_table, is_listed};
-use crate::told::{Slip, Told, said};
 use std::alloc::{AllocError, Global};
 
 /// The most waiting lines of a script that may be left out.
 const WAITS: u32 = 16;
 
-/// The first words of the lines that wait. A ring's line is told before the clock's.
+/// The first words of the lines that wait. A ring's line is printed before the clock's.
 const WAITING: [&str; 2] = ["wait", "armed"];
 
 /// The script without its waiting lines, and without those that its actor has after this one.
@@ -56,7 +56,7 @@ fn shorter<R: Machine>(rt: &R, script: &str, name: &str) -> Result<Option<String
 
 /// Whether a run prints a table that `outcomes` lists: `yes`, or else what it prints. A line that waits and runs out of tries is left
 /// out, where its entry may be without a reply until then, and the script is run again.
-pub fn told<R: Machine>(rt: &R, script: &str) -> Told {
+pub fn printed<R: Machine>(rt: &R, script: &str) -> Printed {
     let alloc = rt.alloc();
     let mut script = String::from_str(alloc, script)?;
     for _ in 0..WAITS {

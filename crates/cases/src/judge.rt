@@ -1,5 +1,5 @@
 //! Whether cases answer what their lines want.
-use crate::told::{Slip, Told};
+use crate::printed::{Printed, Slip};
 use std::alloc::{AllocError, Global};
 use std::io;
 
@@ -24,19 +24,19 @@ impl<R: AllocGlobal + Print> Judge<'_, R> {
         self.rt.alloc()
     }
 
-    /// Compares what is told of a line, which has this before it, with what stands after its ` => `, or `ok`, and prints the line where it is another.
-    pub fn hear(&mut self, lead: &str, line: &str, told: Told) -> io::Result<()> {
-        let told = match told {
-            Ok(told) => told,
+    /// Compares what is printed of a line, which has this before it, with what stands after its ` => `, or `ok`, and prints the line where it is another.
+    pub fn hear(&mut self, lead: &str, line: &str, printed: Printed) -> io::Result<()> {
+        let printed = match printed {
+            Ok(printed) => printed,
             Err(Slip::BadLine) => String::from_str(self.alloc(), "bad line")?,
             Err(Slip::Memory) => return Err(io::Error::from(AllocError)),
         };
         let (_, wanted) = line.split_once(" => ").unwrap_or((line, "ok"));
         self.count = self.count.saturating_add(1);
-        if told.as_str() == wanted {
+        if printed.as_str() == wanted {
             Ok(())
         } else {
-            println!(self.rt; "{lead}{line}: {told}")
+            println!(self.rt; "{lead}{line}: {printed}")
         }
     }
 }

@@ -11,9 +11,9 @@ mod entries;
 mod judge;
 mod paced;
 mod pipes;
+mod printed;
 mod runs;
 mod scripts;
-mod told;
 mod values;
 mod walks;
 mod words;
@@ -21,11 +21,11 @@ mod words;
 use boards::play_board;
 use judge::{Judge, call_of};
 use pipes::Pipes;
+use printed::{Printed, Slip, said, yes};
 use runs::{Machine, unfolded};
 use std::alloc::Global;
 use std::io;
 use std::io::Read;
-use told::{Slip, Told, said, yes};
 use walks::Walk;
 use words::Words;
 
@@ -36,24 +36,24 @@ struct Kept {
     walk: Option<Walk>,
 }
 
-/// What is told of a call.
-fn told_of<R: Machine>(rt: &R, kept: &mut Kept, call: &str) -> Told {
+/// What is printed of a call.
+fn printed_of<R: Machine>(rt: &R, kept: &mut Kept, call: &str) -> Printed {
     let alloc = rt.alloc();
     let (kind, rest) = call.split_once(' ').unwrap_or((call, ""));
     let (text, second) = rest.split_once(" ; ").unwrap_or((rest, ""));
     match kind {
-        "script" => scripts::told(alloc, &unfolded(alloc, text)?),
-        "whole" => scripts::told_of_whole(alloc, &unfolded(alloc, text)?),
-        "long" => scripts::told_of_long(&mut Words::of(alloc, text)),
+        "script" => scripts::printed(alloc, &unfolded(alloc, text)?),
+        "whole" => scripts::printed_of_whole(alloc, &unfolded(alloc, text)?),
+        "long" => scripts::printed_of_long(&mut Words::of(alloc, text)),
         "says" => scripts::said_by(alloc, text),
-        "table" => scripts::told_of_table(alloc, text, second),
-        "events" => scripts::told_of_events(alloc, text),
+        "table" => scripts::printed_of_table(alloc, text, second),
+        "events" => scripts::printed_of_events(alloc, text),
         "states" => scripts::search(alloc, text, &mut Words::of(alloc, second)),
         "agrees" => scripts::agrees(alloc, text, &mut Words::of(alloc, second)),
         "legal" => scripts::is_legal(rt, text, second),
         "among" => yes(alloc, runs::is_listed(rt, text, second)?),
         "listed" => runs::prints_listed(rt, text),
-        "drawn" => drawn::told(rt, text),
+        "drawn" => drawn::printed(rt, text),
         "runs" => runs::by_each(rt, text),
         "stats" => runs::surveyed(rt, text),
         "pours" => runs::pours(rt, &mut Words::of(alloc, text)),
@@ -62,28 +62,28 @@ fn told_of<R: Machine>(rt: &R, kept: &mut Kept, call: &str) -> Told {
         "files" => runs::of_files(rt, text, second),
         "words" => runs::asked(alloc, text, second),
         "query" => runs::queried(rt, alloc, text, second),
-        "paced" => paced::told(rt, &mut Words::of(alloc, text), second),
+        "paced" => paced::printed(rt, &mut Words::of(alloc, text), second),
         "ringrun" => runs::commanded(rt, call),
         "problem" => runs::problem(alloc, text),
-        "writes" | "reads" | "finds" => broken::told(rt, kind, text, second),
+        "writes" | "reads" | "finds" => broken::printed(rt, kind, text, second),
         "run" | "run-1" | "run-64" | "stuck" | "once" | "outcomes" | "history" => {
-            runs::told(rt, kind, text, second)
+            runs::printed(rt, kind, text, second)
         }
-        _ => told_of_value(alloc, kept, call),
+        _ => printed_of_value(alloc, kept, call),
     }
 }
 
-/// What is told of a call of a value, a pipe or the one-thread ring.
-fn told_of_value(alloc: Global, kept: &mut Kept, call: &str) -> Told {
+/// What is printed of a call of a value, a pipe or the one-thread ring.
+fn printed_of_value(alloc: Global, kept: &mut Kept, call: &str) -> Printed {
     let mut words = Words::of(alloc, call);
     let kind = words.word();
-    let told = match kind {
+    let printed = match kind {
         "rings" => {
             kept.walk = Some(Walk::new(&mut words)?);
             said(alloc, "made")?
         }
         "pipe" | "write" | "read" | "splice" | "swap" | "close" | "shut" | "poll" | "memory" => {
-            pipes::told(&mut kept.pipes, kind, &mut words)?
+            pipes::printed(&mut kept.pipes, kind, &mut words)?
         }
         "submit"
         | "part"
@@ -99,13 +99,13 @@ fn told_of_value(alloc: Global, kept: &mut Kept, call: &str) -> Told {
         | "due"
         | "deadline"
         | "was-shut" => match &mut kept.walk {
-            Some(walk) => walk.told(kind, &mut words)?,
+            Some(walk) => walk.printed(kind, &mut words)?,
             None => return Err(Slip::BadLine),
         },
-        _ => values::told(kind, &mut words)?,
+        _ => values::printed(kind, &mut words)?,
     };
     words.end()?;
-    Ok(told)
+    Ok(printed)
 }
 
 fn main(rt: HostRuntime) -> io::Result<()> {
@@ -127,8 +127,8 @@ fn main(rt: HostRuntime) -> io::Result<()> {
         }
         for line in part.split('\n') {
             if let Some(call) = call_of(line) {
-                let told = told_of(&rt, &mut kept, call);
-                judge.hear("", line, told)?;
+                let printed = printed_of(&rt, &mut kept, call);
+                judge.hear("", line, printed)?;
             }
         }
     }

@@ -1,6 +1,6 @@
-//! Queries on a machine with a clock of its own, for what is told of long searches.
+//! Queries on a machine with a clock of its own, for what is printed of long searches.
+use crate::printed::Printed;
 use crate::runs::{Machine, queried};
-use crate::told::Told;
 use crate::words::Words;
 use std::io;
 use std::sync::Wait;
@@ -32,7 +32,7 @@ impl<R> Clock for Paced<R> {
 }
 
 /// What a query answers by such a clock. The words have the milliseconds, and then its command line.
-pub fn told<R: Machine>(rt: &R, words: &mut Words<'_>, texts: &str) -> Told {
+pub fn printed<R: Machine>(rt: &R, words: &mut Words<'_>, texts: &str) -> Printed {
     let (pace, line) = (words.number(), words.left());
     words.end()?;
     let alloc = rt.alloc();

@@ -1,5 +1,5 @@
 //! Pipes.
-use crate::told::{Digits, Slip, Told, debugged, said};
+use crate::printed::{Digits, Printed, Slip, debugged, said};
 use crate::words::Words;
 use level::End;
 use pipe::{Pipe, PipeError};
@@ -13,8 +13,8 @@ pub struct Pipes {
     pub other: Option<Pipe>,
 }
 
-/// What is told of a new pipe, which is kept for the lines after it, of the two pipes, or of a call of the last one.
-pub fn told(pipes: &mut Pipes, kind: &str, words: &mut Words<'_>) -> Told {
+/// What is printed of a new pipe, which is kept for the lines after it, of the two pipes, or of a call of the last one.
+pub fn printed(pipes: &mut Pipes, kind: &str, words: &mut Words<'_>) -> Printed {
     let alloc = words.alloc;
     match kind {
         "pipe" => {
@@ -44,19 +44,19 @@ pub fn told(pipes: &mut Pipes, kind: &str, words: &mut Words<'_>) -> Told {
             }
         }
         _ => match &mut pipes.last {
-            Some(pipe) => told_of_call(pipe, kind, words),
+            Some(pipe) => printed_of_call(pipe, kind, words),
             None => Err(Slip::BadLine),
         },
     }
 }
 
 /// The texts of an error.
-fn refused(alloc: Global, error: PipeError) -> Told {
+fn refused(alloc: Global, error: PipeError) -> Printed {
     Ok(format!(in alloc; "{error:?}: {error}")?)
 }
 
 /// What a call of the pipe answers.
-fn told_of_call(pipe: &mut Pipe, kind: &str, words: &mut Words<'_>) -> Told {
+fn printed_of_call(pipe: &mut Pipe, kind: &str, words: &mut Words<'_>) -> Printed {
     let alloc = words.alloc;
     match kind {
         "close" => {
@@ -66,13 +66,13 @@ fn told_of_call(pipe: &mut Pipe, kind: &str, words: &mut Words<'_>) -> Told {
         }
         "shut" => debugged(alloc, &pipe.is_shut(end_of(words))),
         "poll" => debugged(alloc, &pipe.poll_mask(end_of(words), words.number())),
-        _ => told_of_bytes(pipe, kind, words),
+        _ => printed_of_bytes(pipe, kind, words),
     }
 }
 
 /// What a write or a read answers. Behind a read's answer stand the bytes of its buffer, which the line gives as they are
 /// before.
-fn told_of_bytes(pipe: &mut Pipe, kind: &str, words: &mut Words<'_>) -> Told {
+fn printed_of_bytes(pipe: &mut Pipe, kind: &str, words: &mut Words<'_>) -> Printed {
     let alloc = words.alloc;
     let mut bytes = words.bytes()?;
     words.end()?;

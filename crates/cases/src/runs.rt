@@ -1,5 +1,5 @@
 //! Commands over texts and over files.
-use crate::told::{Slip, Told, said, yes};
+use crate::printed::{Printed, Slip, said, yes};
 use crate::words::Words;
 use commands::{Console, Invocation, Job, Look, Problem, invocation_of, perform, serve};
 use explore::ExploreError;
@@ -128,7 +128,7 @@ fn served<'a, R: Machine>(rt: &R, kind: &str, file: &'a str, names: &[&'a str]) 
 }
 
 /// The status and what was written.
-fn both(alloc: Global, answer: &(u8, String)) -> Told {
+fn both(alloc: Global, answer: &(u8, String)) -> Printed {
     let (status, text) = answer;
     Ok(format!(in alloc; "{status} {text}")?)
 }
@@ -147,17 +147,17 @@ pub fn is_listed<R: Machine>(rt: &R, script: &str, table: &str) -> Result<bool, 
 }
 
 /// What a command answers.
-pub fn told<R: Machine>(rt: &R, kind: &str, script: &str, table: &str) -> Told {
+pub fn printed<R: Machine>(rt: &R, kind: &str, script: &str, table: &str) -> Printed {
     both(rt.alloc(), &answered(rt, kind, script, table)?)
 }
 
 /// What `history` answers over files.
-pub fn of_files<'a, R: Machine>(rt: &R, script: &'a str, table: &'a str) -> Told {
+pub fn of_files<'a, R: Machine>(rt: &R, script: &'a str, table: &'a str) -> Printed {
     both(rt.alloc(), &served(rt, "history", script, &[table])?)
 }
 
 /// Whether `outcomes` lists the table that a run prints.
-pub fn prints_listed<R: Machine>(rt: &R, script: &str) -> Told {
+pub fn prints_listed<R: Machine>(rt: &R, script: &str) -> Printed {
     let (status, table) = answered(rt, "run", script, "")?;
     yes(
         rt.alloc(),
@@ -166,11 +166,11 @@ pub fn prints_listed<R: Machine>(rt: &R, script: &str) -> Told {
 }
 
 /// What run with one worker, with two and with eight says, where all three are the same, or else all three.
-pub fn by_each<R: Machine>(rt: &R, script: &str) -> Told {
+pub fn by_each<R: Machine>(rt: &R, script: &str) -> Printed {
     let alloc = rt.alloc();
-    let one = told(rt, "run-1", script, "")?;
-    let two = told(rt, "run", script, "")?;
-    let eight = told(rt, "run-8", script, "")?;
+    let one = printed(rt, "run-1", script, "")?;
+    let two = printed(rt, "run", script, "")?;
+    let eight = printed(rt, "run-8", script, "")?;
     if one.as_str() == two.as_str() && two.as_str() == eight.as_str() {
         Ok(two)
     } else {
@@ -179,15 +179,15 @@ pub fn by_each<R: Machine>(rt: &R, script: &str) -> Told {
 }
 
 /// What `outcomes` with `--stats` says, but for the number at its end: how fast the machine was.
-pub fn surveyed<R: Machine>(rt: &R, script: &str) -> Told {
-    let whole = told(rt, "stats", script, "")?;
+pub fn surveyed<R: Machine>(rt: &R, script: &str) -> Printed {
+    let whole = printed(rt, "stats", script, "")?;
     let (text, _) = whole.as_str().rsplit_once(' ').unwrap_or(("", ""));
     said(rt.alloc(), text)
 }
 
 /// Whether a run prints the right table of a script that writes so many letters at once to an empty pipe of this capacity, and
 /// then reads as many: what fits in goes in, and comes out.
-pub fn pours<R: Machine>(rt: &R, words: &mut Words<'_>) -> Told {
+pub fn pours<R: Machine>(rt: &R, words: &mut Words<'_>) -> Printed {
     let alloc = rt.alloc();
     let (capacity, count) = (words.number::<usize>(), words.number::<usize>());
     words.end()?;
@@ -204,16 +204,16 @@ pub fn pours<R: Machine>(rt: &R, words: &mut Words<'_>) -> Told {
         "pipe {capacity}/ring 8/on 0/write w 1 {letters}/submit/wait w/read r 0 {count}/submit/wait r"
     )?;
     let wanted = format!(in alloc; "0 w {fits}/r {fits} {digits}/")?;
-    let told = told(rt, "run", script.as_str(), "")?;
-    if told.as_str() == wanted.as_str() {
+    let printed = printed(rt, "run", script.as_str(), "")?;
+    if printed.as_str() == wanted.as_str() {
         said(alloc, "yes")
     } else {
-        Ok(told)
+        Ok(printed)
     }
 }
 
 /// Whether the outcomes of an example are what stands beside it; or else whether a run of it prints one of these tables.
-pub fn of_example<R: Machine>(rt: &R, kind: &str, name: &str) -> Told {
+pub fn of_example<R: Machine>(rt: &R, kind: &str, name: &str) -> Printed {
     let alloc = rt.alloc();
     let (script, beside) = (
         format!(in alloc; "{name}.ring")?,
@@ -239,7 +239,7 @@ fn replied<R: Threads + Wait + Copy + Send + Sync + Clock + 'static>(
     invocation: &Invocation<'_>,
     script: &[u8],
     tables: &[Vec<u8>],
-) -> Told {
+) -> Printed {
     let mut readers = Vec::new(alloc);
     for (name, table) in invocation.tables.iter().zip(tables) {
         readers.push((*name, table.as_slice()))?;
@@ -257,7 +257,7 @@ pub fn queried<R: Threads + Wait + Copy + Send + Sync + Clock + 'static>(
     alloc: Global,
     line: &str,
     texts: &str,
-) -> Told {
+) -> Printed {
     let (script, rest) = texts.split_once(" ; ").unwrap_or((texts, ""));
     let script = unfolded(alloc, script)?;
     let mut tables = Vec::new(alloc);
@@ -272,7 +272,7 @@ pub fn queried<R: Threads + Wait + Copy + Send + Sync + Clock + 'static>(
 }
 
 /// What the program answers to these words, over files.
-pub fn commanded<R: Machine>(rt: &R, line: &str) -> Told {
+pub fn commanded<R: Machine>(rt: &R, line: &str) -> Printed {
     let alloc = rt.alloc();
     let words: Vec<&str> = line.split(' ').collect(alloc)?;
     let Ok(invocation) = invocation_of(alloc, &words) else {
@@ -300,7 +300,7 @@ fn names_of(alloc: Global, tables: &[&str]) -> Result<String, AllocError> {
 }
 
 /// What a command line asks for: its job, its file and its table, or `refused`, or `help` whose text has this part.
-pub fn asked(alloc: Global, line: &str, part: &str) -> Told {
+pub fn asked(alloc: Global, line: &str, part: &str) -> Printed {
     let words: Vec<&str> = line.split(' ').collect(alloc)?;
     match invocation_of(alloc, &words) {
         Ok(invocation) => {
@@ -318,7 +318,7 @@ pub fn asked(alloc: Global, line: &str, part: &str) -> Told {
 }
 
 /// The status and the line of the problem of this name, of those that no script can bring about.
-pub fn problem(alloc: Global, name: &str) -> Told {
+pub fn problem(alloc: Global, name: &str) -> Printed {
     let problem = match name {
         "many" => Problem::from(ExploreError::TooMany),
         "search" => Problem::from(ExploreError::Memory),

@@ -1,7 +1,7 @@
 //! Scripts, tables, histories and searches.
 use crate::entries::event_of;
+use crate::printed::{Printed, Slip, said, shown, yes};
 use crate::runs::{Machine, answered, folded, unfolded};
-use crate::told::{Slip, Told, said, shown, yes};
 use crate::words::Words;
 use explore::{ExploreError, Script, find_history, outcomes, outcomes_by_every_step};
 use history::Event;
@@ -19,37 +19,37 @@ fn script_of(alloc: Global, text: &str) -> Result<Script, Slip> {
     read_script(alloc, &unfolded(alloc, text)?).map_err(|_| Slip::BadLine)
 }
 
-/// What is told of a script: `read`, or its fault.
-pub fn told(alloc: Global, script: &[u8]) -> Told {
+/// What is printed of a script: `read`, or its fault.
+pub fn printed(alloc: Global, script: &[u8]) -> Printed {
     match read_script(alloc, script) {
         Ok(_) => said(alloc, "read"),
         Err(fault) => shown(alloc, &fault),
     }
 }
 
-/// What is told of a whole script: as of any, if each of its beginnings is a script or has a fault.
-pub fn told_of_whole(alloc: Global, script: &[u8]) -> Told {
+/// What is printed of a whole script: as of any, if each of its beginnings is a script or has a fault.
+pub fn printed_of_whole(alloc: Global, script: &[u8]) -> Printed {
     for len in 0..script.len() {
-        let told = told(alloc, &script[..len])?;
-        if told.as_str() != "read" && !told.as_str().starts_with("line ") {
-            return Ok(told);
+        let printed = printed(alloc, &script[..len])?;
+        if printed.as_str() != "read" && !printed.as_str().starts_with("line ") {
+            return Ok(printed);
         }
     }
-    told(alloc, script)
+    printed(alloc, script)
 }
 
-/// What is told of a script whose one WRITE has a TEXT of so many bytes.
-pub fn told_of_long(words: &mut Words<'_>) -> Told {
+/// What is printed of a script whose one WRITE has a TEXT of so many bytes.
+pub fn printed_of_long(words: &mut Words<'_>) -> Printed {
     let (alloc, count) = (words.alloc, words.number());
     words.end()?;
     let mut script = Vec::from_slice(alloc, b"pipe 16\nring 8\non 0\nwrite w 1 ")?;
     script.extend_from_slice(&vec![in alloc; b'x'; count]?)?;
     script.extend_from_slice(b"\nsubmit\n")?;
-    told(alloc, &script)
+    printed(alloc, &script)
 }
 
 /// What a script says: its rings, its entries, and the lines of each actor.
-pub fn said_by(alloc: Global, text: &str) -> Told {
+pub fn said_by(alloc: Global, text: &str) -> Printed {
     let script = script_of(alloc, text)?;
     let mut said = format!(in alloc; "rings {:?}", script.rings)?;
     for entry in &script.entries {
@@ -63,8 +63,8 @@ pub fn said_by(alloc: Global, text: &str) -> Told {
     Ok(said)
 }
 
-/// What is told of a table of a script: `read` where it is read and written again as it was, or its fault.
-pub fn told_of_table(alloc: Global, text: &str, table: &str) -> Told {
+/// What is printed of a table of a script: `read` where it is read and written again as it was, or its fault.
+pub fn printed_of_table(alloc: Global, text: &str, table: &str) -> Printed {
     let (script, table) = (script_of(alloc, text)?, unfolded(alloc, table)?);
     let read = match read_table(alloc, &script, &table) {
         Ok(read) => read,
@@ -76,7 +76,7 @@ pub fn told_of_table(alloc: Global, text: &str, table: &str) -> Told {
 }
 
 /// Some events as a history of a script, by their requests.
-pub fn told_of_events(alloc: Global, items: &str) -> Told {
+pub fn printed_of_events(alloc: Global, items: &str) -> Printed {
     let script = read_script(alloc, SCRIPT).map_err(|_| Slip::BadLine)?;
     let mut events = Vec::new(alloc);
     for item in items.split(", ") {
@@ -90,7 +90,7 @@ pub fn told_of_events(alloc: Global, items: &str) -> Told {
 
 /// How many tables a search finds, or that there are too many states. The words have the most states of a search, and how often it is
 /// made, so that its speed can be measured.
-pub fn search(alloc: Global, text: &str, words: &mut Words<'_>) -> Told {
+pub fn search(alloc: Global, text: &str, words: &mut Words<'_>) -> Printed {
     let script = script_of(alloc, text)?;
     let (limit, rounds) = (words.number::<u32>(), words.number::<u32>());
     words.end()?;
@@ -108,7 +108,7 @@ pub fn search(alloc: Global, text: &str, words: &mut Words<'_>) -> Told {
 }
 
 /// Whether the search finds the tables that the one by every step finds. The words have the most states of each.
-pub fn agrees(alloc: Global, text: &str, words: &mut Words<'_>) -> Told {
+pub fn agrees(alloc: Global, text: &str, words: &mut Words<'_>) -> Printed {
     let script = script_of(alloc, text)?;
     let limit = words.number::<u32>();
     words.end()?;
@@ -135,7 +135,7 @@ fn is_accepted(alloc: Global, script: &Script, events: &[Event]) -> Result<bool,
 }
 
 /// Whether the history that is printed for a script and a table is one that the one-thread ring accepts, event by event.
-pub fn is_legal<R: Machine>(rt: &R, text: &str, table: &str) -> Told {
+pub fn is_legal<R: Machine>(rt: &R, text: &str, table: &str) -> Printed {
     let alloc = rt.alloc();
     let (status, printed) = answered(rt, "history", text, table)?;
     let script = script_of(alloc, text)?;

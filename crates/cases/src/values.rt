@@ -1,47 +1,47 @@
 //! Entries, their parts, completions and claim words.
 use crate::entries::entry_of;
-use crate::told::{Digits, Slip, Told, debugged, said, shown};
+use crate::printed::{Digits, Printed, Slip, debugged, said, shown};
 use crate::words::Words;
 use bitflags::Flags;
 use claim::{Cause, ClaimWord, GENERATIONS, Tag, pack, unpack};
 use entry::{Cqe, Offset, Op, Row, Sqe, SqeFlags, fails};
 use std::alloc::{AllocError, Global};
 
-/// What is told of a value by the words after its kind.
-pub fn told(kind: &str, words: &mut Words<'_>) -> Told {
+/// What is printed of a value by the words after its kind.
+pub fn printed(kind: &str, words: &mut Words<'_>) -> Printed {
     let alloc = words.alloc;
     match kind {
-        "sqe" => told_of_entry(Sqe::of_bytes(&words.array()), words),
+        "sqe" => printed_of_entry(Sqe::of_bytes(&words.array()), words),
         "row" => {
             let entry = Sqe::of_row(row_of(words), words.number(), words.number());
-            told_of_entry(entry, words)
+            printed_of_entry(entry, words)
         }
         "entry" => {
             let (entry, _) = entry_of(words)?;
-            told_of_entry(entry, words)
+            printed_of_entry(entry, words)
         }
         "fails" => {
             let res = words.number();
             let (entry, _) = entry_of(words)?;
             shown(alloc, &fails(&entry, res))
         }
-        "near" => told_of_neighbours(alloc, &words.array()),
-        "candidate" => told_of_op(alloc, row_of(words).candidate()),
+        "near" => printed_of_neighbours(alloc, &words.array()),
+        "candidate" => printed_of_op(alloc, row_of(words).candidate()),
         "is_written" => {
             let row = row_of(words);
             shown(alloc, &row.candidate().is_written_as(&row, words.number()))
         }
         "ticks" => {
             let ticks = words.number();
-            told_of_op(alloc, Op::LinkTimeout { ticks })
+            printed_of_op(alloc, Op::LinkTimeout { ticks })
         }
-        "constants" => told_of_constants(alloc),
-        "cqe" => told_of_completion(alloc, Cqe::of_bytes(&words.array())),
+        "constants" => printed_of_constants(alloc),
+        "cqe" => printed_of_completion(alloc, Cqe::of_bytes(&words.array())),
         "completion" => {
             let (user_data, res) = (words.number(), words.number());
-            told_of_completion(alloc, Some(Cqe { user_data, res }))
+            printed_of_completion(alloc, Some(Cqe { user_data, res }))
         }
-        _ => told_of_claim(kind, words),
+        _ => printed_of_claim(kind, words),
     }
 }
 
@@ -59,7 +59,7 @@ fn row_of(words: &mut Words<'_>) -> Row {
 }
 
 /// The texts of an entry, its parts, its flags and what they ask for, its row, its bytes, and whether it is read from these.
-fn told_of_entry(sqe: Sqe, words: &Words<'_>) -> Told {
+fn printed_of_entry(sqe: Sqe, words: &Words<'_>) -> Printed {
     words.end()?;
     let alloc = words.alloc;
     let (user_data, flags, op, row) = (sqe.user_data(), sqe.flags(), sqe.op(), sqe.row());
@@ -71,17 +71,19 @@ fn told_of_entry(sqe: Sqe, words: &Words<'_>) -> Told {
     let (drains, soft, hards) = (sqe.drains(), sqe.links_soft(), sqe.links_hard());
     let bytes = sqe.to_bytes();
     let (digits, again) = (Digits(&bytes), Sqe::of_bytes(&bytes) == sqe);
-    let mut told = format!(in alloc; "{sqe}/{sqe:?}/user_data {user_data} flags {bits} op {op:?}")?;
-    told.push_str(format!(in alloc; "/contains link {link} hard {hard}")?.as_str())?;
-    told.push_str(format!(in alloc;
+    let mut printed = format!(in alloc;
+        "{sqe}/{sqe:?}/user_data {user_data} flags {bits} op {op:?}"
+    )?;
+    printed.push_str(format!(in alloc; "/contains link {link} hard {hard}")?.as_str())?;
+    printed.push_str(format!(in alloc;
         "/drains {drains} links_soft {soft} links_hard {hards}"
     )?.as_str())?;
-    told.push_str(format!(in alloc; "/{row:?}/{digits} again {again}")?.as_str())?;
-    Ok(told)
+    printed.push_str(format!(in alloc; "/{row:?}/{digits} again {again}")?.as_str())?;
+    Ok(printed)
 }
 
 /// How many of the 512 entries that differ in one bit are valid, Invalid, or neither.
-fn told_of_neighbours(alloc: Global, bytes: &[u8; 64]) -> Told {
+fn printed_of_neighbours(alloc: Global, bytes: &[u8; 64]) -> Printed {
     let (mut valid, mut invalid, mut wrong) = (0u32, 0u32, 0u32);
     for i in 0..512usize {
         let mut near = *bytes;
@@ -115,13 +117,13 @@ fn is_valid(bytes: &[u8; 64]) -> Option<bool> {
 }
 
 /// The texts of an operation, whether its values fit, the flags that it may have, and its row.
-fn told_of_op(alloc: Global, op: Op) -> Told {
+fn printed_of_op(alloc: Global, op: Op) -> Printed {
     let (fits, flags, row) = (op.fits(), op.allowed_flags(), op.row());
     Ok(format!(in alloc; "{op}/{op:?}/fits {fits} allowed_flags {flags}/{row:?}")?)
 }
 
 /// The bits of the flags, and the numbers of the offsets.
-fn told_of_constants(alloc: Global) -> Told {
+fn printed_of_constants(alloc: Global) -> Printed {
     let (drain, link, hard, all) = (
         SqeFlags::IO_DRAIN.bits(),
         SqeFlags::IO_LINK.bits(),
@@ -135,7 +137,7 @@ fn told_of_constants(alloc: Global) -> Told {
 }
 
 /// The texts of a completion, its bytes, and whether it is read from these.
-fn told_of_completion(alloc: Global, cqe: Option<Cqe>) -> Told {
+fn printed_of_completion(alloc: Global, cqe: Option<Cqe>) -> Printed {
     let Some(cqe) = cqe else {
         return said(alloc, "none");
     };
@@ -144,12 +146,12 @@ fn told_of_completion(alloc: Global, cqe: Option<Cqe>) -> Told {
     Ok(format!(in alloc; "{cqe}/{cqe:?}/{digits} again {again}")?)
 }
 
-/// What is told of 64 bits, a claim word, a cause or the number of a tag.
-fn told_of_claim(kind: &str, words: &mut Words<'_>) -> Told {
+/// What is printed of 64 bits, a claim word, a cause or the number of a tag.
+fn printed_of_claim(kind: &str, words: &mut Words<'_>) -> Printed {
     let alloc = words.alloc;
     match kind {
-        "claim" => told_of_word(alloc, unpack(u64::from_be_bytes(words.array()))),
-        "word" => told_of_word(alloc, Some(word_of(words))),
+        "claim" => printed_of_word(alloc, unpack(u64::from_be_bytes(words.array()))),
+        "word" => printed_of_word(alloc, Some(word_of(words))),
         "cause" => {
             let cause = cause_of(words);
             let (number, failed) = (cause.number(false), cause.number(true));
@@ -198,7 +200,7 @@ fn cause_of(words: &mut Words<'_>) -> Cause {
 }
 
 /// The texts of a claim word, what is read of it, its 64 bits, and whether it is read from these.
-fn told_of_word(alloc: Global, word: Option<ClaimWord>) -> Told {
+fn printed_of_word(alloc: Global, word: Option<ClaimWord>) -> Printed {
     let Some(word) = word else {
         return said(alloc, "none");
     };

@@ -1,6 +1,6 @@
 //! The one-thread ring, event by event.
 use crate::entries::{entry_of, event_of};
-use crate::told::{Digits, Named, Slip, Told, debugged, said, shown};
+use crate::printed::{Digits, Named, Printed, Slip, debugged, said, shown};
 use crate::words::Words;
 use history::{Bytes, Event, Req};
 use limits::TICK;
@@ -42,8 +42,8 @@ impl Walk {
         })
     }
 
-    /// What is told of a line by its items, between which a comma and a space stand, or of its number.
-    pub fn told(&mut self, kind: &str, words: &mut Words<'_>) -> Told {
+    /// What is printed of a line by its items, between which a comma and a space stand, or of its number.
+    pub fn printed(&mut self, kind: &str, words: &mut Words<'_>) -> Printed {
         let alloc = words.alloc;
         match kind {
             "submit" | "part" => {
@@ -92,25 +92,25 @@ impl Walk {
     }
 
     /// Each event comes next, or none of them may. Tells of the first that goes otherwise.
-    fn play(&mut self, alloc: Global, items: &str, goes: bool) -> Told {
+    fn play(&mut self, alloc: Global, items: &str, goes: bool) -> Printed {
         for item in items.split(", ") {
             let mut words = Words::of(alloc, item);
             let event = event_of(&mut words)?;
             words.end()?;
-            let told = if goes {
+            let printed = if goes {
                 self.step(&event)
             } else {
                 self.miss(&event)?
             };
-            if told != "ok" {
-                return Ok(format!(in alloc; "{item}: {told}")?);
+            if printed != "ok" {
+                return Ok(format!(in alloc; "{item}: {printed}")?);
             }
         }
         said(alloc, "ok")
     }
 
     /// Hands entries in, of which the last may end the batch. An entry with user_data 0 gets its number in the walk, from 1.
-    fn submit(&mut self, alloc: Global, ring: u16, items: &str, is_whole: bool) -> Told {
+    fn submit(&mut self, alloc: Global, ring: u16, items: &str, is_whole: bool) -> Printed {
         let count = items.split(", ").count();
         for (place, item) in items.split(", ").enumerate() {
             let mut words = Words::of(alloc, item);
@@ -138,36 +138,36 @@ impl Walk {
     }
 
     /// The table's rows of these requests.
-    fn rows(&self, alloc: Global, items: &str) -> Told {
-        let mut told = String::new(alloc);
+    fn rows(&self, alloc: Global, items: &str) -> Printed {
+        let mut printed = String::new(alloc);
         for item in items.split(", ") {
             let mut words = Words::of(alloc, item);
             let req = words.req();
             words.end()?;
-            self.push_row(alloc, &mut told, req)?;
+            self.push_row(alloc, &mut printed, req)?;
         }
-        Ok(told)
+        Ok(printed)
     }
 
     /// Adds the table's row of a request.
-    fn push_row(&self, alloc: Global, told: &mut String, req: Req) -> Result<(), Slip> {
+    fn push_row(&self, alloc: Global, printed: &mut String, req: Req) -> Result<(), Slip> {
         let name = Named(req);
-        if !told.is_empty() {
-            told.push_str(", ")?;
+        if !printed.is_empty() {
+            printed.push_str(", ")?;
         }
         match (self.object.reply_of(req), self.object.data_of(req)) {
             (Some(res), Some(data)) => {
                 let data = Digits(data);
-                told.push_str(format!(in alloc; "{name} {res} {data}")?.as_str())?;
+                printed.push_str(format!(in alloc; "{name} {res} {data}")?.as_str())?;
             }
-            _ => told.push_str(format!(in alloc; "{name} open")?.as_str())?,
+            _ => printed.push_str(format!(in alloc; "{name} open")?.as_str())?,
         }
         Ok(())
     }
 
     /// The end: each completion is taken, once; then Shut, and a Cut, once, for each request without an answer. Tells the whole
     /// table, in the order of submission.
-    fn end(&mut self, alloc: Global) -> Told {
+    fn end(&mut self, alloc: Global) -> Printed {
         if !self.end_each(false)?
             || self.step(&Event::Shut) != "ok"
             || self.miss(&Event::Shut)? != "ok"
@@ -176,11 +176,11 @@ impl Walk {
         {
             return said(alloc, "another end");
         }
-        let mut told = String::new(alloc);
+        let mut printed = String::new(alloc);
         for req in self.requests.iter() {
-            self.push_row(alloc, &mut told, *req)?;
+            self.push_row(alloc, &mut printed, *req)?;
         }
-        Ok(told)
+        Ok(printed)
     }
 
     /// Reaps each answered request, once, or cuts each other one, once.
@@ -204,21 +204,21 @@ impl Walk {
     }
 
     /// So many NOPs, one after another.
-    fn nops(&mut self, alloc: Global, count: u64) -> Told {
+    fn nops(&mut self, alloc: Global, count: u64) -> Printed {
         for k in 0..count {
             let items = format!(in alloc;
                 "submit 0.{k} nop, begin 0.{k}, reply 0.{k} 0, reap 0.{k}"
             )?;
-            let told = self.play(alloc, items.as_str(), true)?;
-            if told.as_str() != "ok" {
-                return Ok(told);
+            let printed = self.play(alloc, items.as_str(), true)?;
+            if printed.as_str() != "ok" {
+                return Ok(printed);
             }
         }
         said(alloc, "ok")
     }
 
     /// The reply and the data that a worker may give to a request now.
-    fn answer(&self, alloc: Global, req: Req) -> Told {
+    fn answer(&self, alloc: Global, req: Req) -> Printed {
         match self.object.answer_now(req)? {
             Some((res, bytes)) => {
                 let data = Digits(bytes.as_slice());
@@ -229,7 +229,7 @@ impl Walk {
     }
 
     /// The words of the state, after those of the line.
-    fn state(&self, words: &mut Words<'_>) -> Told {
+    fn state(&self, words: &mut Words<'_>) -> Printed {
         let alloc = words.alloc;
         let mut state = Packing::new(Vec::new(alloc));
         if words.rest.is_some() {

@@ -1,7 +1,7 @@
 //! The words of a line, read one after another.
 ghost use Rattle.std.specs.Prelude.{◌≡◌, IsOk, IsTrue, IsSomeAnd, true, false, None};
 
-use crate::told::Slip;
+use crate::printed::Slip;
 use hex::FromHex;
 use history::Req;
 use std::alloc::{AllocError, Global};

@@ -2,7 +2,8 @@
 //! clients wait for the completions, and the runtime is ended.
 #![tactic(auto)]
 
-ghost use Rattle.std.specs.Prelude.{◌≡◌, None, IfOk};
+ghost use Rattle.std.specs.Prelude.{◌≡◌, None, map};
+ghost use Rattle.runtime.specs.{AreClients};
 
 use anyhow::{Result, bail};
 use board::{Completion, Phase, RingShape, Shape};
@@ -32,7 +33,7 @@ impl Clock for Ticking {
         None
     }
 
-    fn tell(&mut self, now: u32, _phase: Option<Phase>) -> Option<u32> {
+    fn advance(&mut self, now: u32, _phase: Option<Phase>) -> Option<u32> {
         now.checked_add(1)
     }
 }
@@ -48,22 +49,6 @@ fn shape_of(alloc: Global) -> Result<Shape, AllocError> {
         pipes: Vec::from_elem(alloc, 16u32, 1)?,
         workers: 2,
     })
-}
-
-/// Starts a runtime, and gives it with the clients of ring 0 and ring 1.
-fn begin<R: Threads + Wait + Copy + Send + 'static>(
-    rt: R,
-    alloc: Global,
-) -> Result<(Runtime<Ticking>, Client, Client)>
-    ensures zero { IfOk result (λ t. t.1.board ≡ t.0.board) }
-    ensures one { IfOk result (λ t. t.2.board ≡ t.0.board) }
-{
-    let shape = shape_of(alloc)?;
-    let (runtime, mut clients) = start(rt, alloc, &shape, 64, Open, Ticking)?;
-    let (Some(one), Some(zero)) = (clients.pop(), clients.pop()) else {
-        bail!("a client is missing");
-    };
-    Ok((runtime, zero, one))
 }
 
 /// Submits the entries, each with its buffer, as one batch.
@@ -118,26 +103,6 @@ fn show<R: Print>(rt: &R, completion: &Completion) -> io::Result<()> {
     println!(rt; "{user_data}: {res} {text:?}")
 }
 
-/// Ends the runtime of these two clients. How many requests were left over.
-fn end<R: Threads + Wait>(
-    rt: &R,
-    alloc: Global,
-    runtime: Runtime<Ticking>,
-    zero: Client,
-    one: Client,
-) -> Result<usize>
-    requires zero { zero.board ≡ runtime.board }
-    requires one { one.board ≡ runtime.board }
-{
-    let mut clients = Vec::new(alloc);
-    clients.push(zero)?;
-    clients.push(one)?;
-    match join_all(rt, alloc, runtime, clients) {
-        Ok(report) => Ok(report.lines().len()),
-        Err(unjoined) => Err(unjoined.error.into()),
-    }
-}
-
 /// Submits the requests of both rings, waits for their completions, and prints them.
 fn serve<R: Wait + Print>(rt: &R, alloc: Global, zero: &mut Client, one: &mut Client) -> Result<()>
     ensures zero { zero.new.board ≡ zero.old.board }
@@ -153,11 +118,41 @@ fn serve<R: Wait + Print>(rt: &R, alloc: Global, zero: &mut Client, one: &mut Cl
     Ok(())
 }
 
+/// Serves the first two of these clients, which are those of ring 0 and ring 1.
+fn serve_two<R: Wait + Print>(rt: &R, alloc: Global, clients: &mut Vec<Client>) -> Result<()>
+    ensures { map (λ c. c.board) clients.new.items ≡ map (λ c. c.board) clients.old.items }
+{
+    let Some((zero, rest)) = clients.split_first_mut() else {
+        bail!("no client is there");
+    };
+    let Some(one) = rest.first_mut() else {
+        bail!("the client of ring 1 is missing");
+    };
+    serve(rt, alloc, zero, one)
+}
+
+/// Ends the runtime of these clients. How many requests were left over.
+fn end<R: Threads + Wait>(
+    rt: &R,
+    alloc: Global,
+    runtime: Runtime<Ticking>,
+    clients: Vec<Client>,
+) -> Result<usize>
+    requires { AreClients runtime.board clients.items }
+{
+    match join_all(rt, alloc, runtime, clients) {
+        Ok(report) => Ok(report.lines().len()),
+        Err(unjoined) => Err(unjoined.abandon(rt).into()),
+    }
+}
+
 fn main(rt: HostRuntime) -> Result<()> {
     let alloc = rt.alloc();
-    let (runtime, mut zero, mut one) = begin(rt, alloc)?;
-    serve(&rt, alloc, &mut zero, &mut one)?;
-    let left = end(&rt, alloc, runtime, zero, one)?;
+    let shape = shape_of(alloc)?;
+    let (runtime, mut clients) = start(rt, alloc, &shape, 64, Open, Ticking)?;
+    let served = serve_two(&rt, alloc, &mut clients);
+    let left = end(&rt, alloc, runtime, clients)?;
+    served?;
     println!(rt; "left: {left}")?;
     Ok(())
 }

@@ -9,8 +9,8 @@ use Rattle.script_text.specs.{history_text, table_text, IsTableText}
 use Rattle.explore.specs.{Among, IsHistoryOf}
 use Rattle.script_run.specs.RunRows.{HasRun}
 use Rattle.serde_json.specs.Data.{null}
-use Rattle.pictures.specs.{explained_data, history_data, json_text, listed, table_data, tables_data, tallied_data, verdict_data, lanes_text, mermaid_text, explained_text, tally_text, verdict_lines}
-use Rattle.checks.specs.{tally_of, IsVerdict}
+use Rattle.pictures.specs.{explained_data, history_data, json_text, listed, table_data, tables_data, counted_data, verdict_data, lanes_text, mermaid_text, explained_text, counts_text, verdict_lines}
+use Rattle.checks.specs.{counts_of, IsVerdict}
 use Rattle.commands.specs.Printed.{counted_text}
 use Rattle.command_line.specs.declared.job.Job.{Job}
 use Rattle.command_line.specs.declared.job.Job.TheVariants.{Run, Outcomes, History, Check}
@@ -31,8 +31,8 @@ one_text false c (rows ∷ others) = table_text c.entries.items rows
 -- the table of one run, or the tables of many and how often each came
 abbrev pub runs_text : Option ℕ → Bool → Script → List (List (ℤ × List ℕ)) → List ℕ
 runs_text None json c runs = one_text json c runs
-runs_text (Some n) true c runs = json_text (listed (map (tallied_data c) (tally_of runs)))
-runs_text (Some n) false c runs = tally_text c (tally_of runs) (length runs)
+runs_text (Some n) true c runs = json_text (listed (map (counted_data c) (counts_of runs)))
+runs_text (Some n) false c runs = counts_text c (counts_of runs) (length runs)
 
 pub record IsRunsText (c : Script) (workers : ℕ) (times : Option ℕ) (json : Bool) (text : List ℕ) : Type 0 where
   pub runs : List Table

@@ -5,7 +5,7 @@ ghost use Rattle.commands.specs.Status.{IsOfMemory, IsOfRun};
 ghost use Rattle.commands.specs.Answers.{one_text, runs_text, AreRuns, IsRunsText};
 
 use crate::problem::Problem;
-use checks::tally_of;
+use checks::counts_of;
 use controls::Open;
 use script::{Script, Table};
 use script_run::run_script;
@@ -72,11 +72,11 @@ fn many_text(
     ensures text { IfOk result (λ text. (n : ℕ) → text.items ≡ runs_text (Some n) json script.now (map rows_of tables.now)) }
     ensures memory { IfErr result IsOfMemory }
 {
-    let tally = tally_of(alloc, tables)?;
+    let counts = counts_of(alloc, tables)?;
     if json {
-        Ok(pictures::write_tally(alloc, script, &tally)?)
+        Ok(pictures::write_counts(alloc, script, &counts)?)
     } else {
-        Ok(pictures::tally_text(alloc, script, &tally, tables.len())?)
+        Ok(pictures::counts_text(alloc, script, &counts, tables.len())?)
     }
 }
 

@@ -4,12 +4,12 @@ ghost use Rattle.history.specs.declared.event.Event.{Event};
 ghost use Rattle.history.specs.declared.req.Req.{Req as Request};
 ghost use Rattle.history.specs.Legal.{Legal, Setup};
 ghost use Rattle.history.specs.Ticked.{counts_tick};
-ghost use Rattle.controls.specs.Clocks.{Told};
+ghost use Rattle.controls.specs.Clocks.{Advances};
 
 use board::Phase;
 use history::Req;
 
-/// Asked by the poller once a turn. The board's clock is set to what `tell` answers, unless that is before its time or after
+/// Asked by the poller once a turn. The board's clock is set to what `advance` answers, unless that is before its time or after
 /// its end. Nothing else sets it.
 pub trait Clock {
     /// The request for which `ask` asks.
@@ -24,8 +24,8 @@ pub trait Clock {
 
     /// The next time of the clock in ticks, if it goes on. `now` is the board's time, and `phase` that of the request that it asked
     /// for.
-    fn tell(&mut self, now: u32, phase: Option<Phase>) -> Option<u32>
-        ensures { Told (follows self.old) (follows self.new) (asked self.old) now phase result };
+    fn advance(&mut self, now: u32, phase: Option<Phase>) -> Option<u32>
+        ensures { Advances (follows self.old) (follows self.new) (asked self.old) now phase result };
 
     /// What does not set the clock, the clock need not know of.
     ghost stays: { (c : Self) (s : Setup) (e : Event) (h : List Event) → Legal s (e ∷ h) → counts_tick e ≡ 0 → follows c h → follows c (e ∷ h) };
@@ -46,7 +46,7 @@ impl Clock for NoClock {
         None
     }
 
-    fn tell(&mut self, _now: u32, _phase: Option<Phase>) -> Option<u32>
+    fn advance(&mut self, _now: u32, _phase: Option<Phase>) -> Option<u32>
         ensures { result ≡ None }
     {
         None

@@ -7,7 +7,7 @@ pub use Rattle.gates.specs.declared.cell.Cell.{Cell}
 pub use Rattle.gates.specs.declared.traits.Traits.{Traits}
 pub use Rattle.history.proofs.Growth.{replied_of_reply, replied_stays, reply_of_replied, reply_stays, submission_none, submission_stays}
 pub use Rattle.history.proofs.Requests.{and_left, and_right, bool_cases}
-pub use Rattle.history.specs.{IsBefore, IsChainBefore, IsChainDone, IsChained, IsClear, IsPlaced, IsTarget, Open, Severed, before_in, gate_of, hosts, is_invalid, is_link_timeout, is_link_timeout_in, joins, placed, placed_from, previous, severs, IsReplied, Submission, phase, reply, submission, submits}
+pub use Rattle.history.specs.{IsBefore, IsChainBefore, IsChainDone, IsChained, IsClear, IsPlaced, IsTarget, Open, Severed, before_in, gate_of, hosts, is_invalid, is_link_timeout, is_link_timeout_in, joins, placed, placed_from, previous, severs, IsReplied, Submitted, phase, reply, submission, submits}
 pub use Rattle.history.specs.declared.event.Event.{Event}
 pub use Rattle.history.specs.declared.req.Req.{Req}
 pub use Rattle.std.proofs.Common.{Bool, List, None, Option, Some, [], ap, arith, below_more, cond, drop, eq-eqb, eqb-true, false, inl, inr, length, length-append, length-drop, map, not, refl, replicate, set, subst, suc, sym, true, true≢false, zero, ℕ, ℤ, ⊎_elim, ◌&&◌, ◌++◌, ◌+◌, ◌-◌, ◌<◌, ◌==◌, ◌||◌, ◌∙◌, ◌∷◌, ◌≡◌, ◌≢◌, ◌≤◌, ◌⊎◌}

@@ -1,7 +1,7 @@
 -- What keeps a list trailing its history: growth of the history, a slot more, and an outcome that was looked for.
 use Rattle.history.specs.Legal.{Setup, MayCome, Legal}
 use Rattle.history.proofs.Opening.{placed_stays, chain_was, done_stays}
-use Rattle.gates.proofs.Common.{ArePlain, Bool, Entry, Event, HasNotSevered, HaveGoneOn, IsChainDone, IsChained, IsOfChain, IsOutcome, IsPlaced, IsPlainAt, IsReplied, Kept, List, None, Option, Req, Slot, Some, Stands, StandsIn, Submission, TrailedAt, Trails, TrailsAt, Traits, [], answered, ap, arith, bool_cases, cases_lt, eqb-true, false, inl, inr, is_pending, is_unanswered, joins, length, length-append, length-replicate, none-some, nth, passes, phase, refl, replied_stays, reply_of_replied, reply_stays, set, slice_get, slice_get_within, slot_with, stand_in, stand_ins, submission, submission_none, submission_stays, submits, subst, sym, test_at, traits_of, true, true≢false, with_reply, ℕ, ⊎_elim, ◌++◌, ◌+◌, ◌<◌, ◌==◌, ◌∙◌, ◌∷◌, ◌≡◌, ◌≤◌, ◌⊎◌}
+use Rattle.gates.proofs.Common.{ArePlain, Bool, Entry, Event, HasNotSevered, HaveGoneOn, IsChainDone, IsChained, IsOfChain, IsOutcome, IsPlaced, IsPlainAt, IsReplied, Kept, List, None, Option, Req, Slot, Some, Stands, StandsIn, Submitted, TrailedAt, Trails, TrailsAt, Traits, [], answered, ap, arith, bool_cases, cases_lt, eqb-true, false, inl, inr, is_pending, is_unanswered, joins, length, length-append, length-replicate, none-some, nth, passes, phase, refl, replied_stays, reply_of_replied, reply_stays, set, slice_get, slice_get_within, slot_with, stand_in, stand_ins, submission, submission_none, submission_stays, submits, subst, sym, test_at, traits_of, true, true≢false, with_reply, ℕ, ⊎_elim, ◌++◌, ◌+◌, ◌<◌, ◌==◌, ◌∙◌, ◌∷◌, ◌≡◌, ◌≤◌, ◌⊎◌}
 use Rattle.gates.proofs.Lists.{get_before, get_last, get_set_same, get_set_other, one_some}
 use Rattle.gates.proofs.Links.{ne_of}
 use Rattle.gates.proofs.Trailing.{trailed}
@@ -11,7 +11,7 @@ pub trails_none : (h : List Event) (i : ℕ) → Trails h i []
 trails_none h i k s e = absurd (none-some s e)
 
 -- a request of which the traits are known trails, and so does a stand-in for one whose whole chain has replied
-pub met_trails : (h : List Event) (q : Req) (x : Submission) (e : Entry) (t : Traits) (last : Bool) → submission h q ≡ Some x → IsPlaced h q e → traits_of e ≡ t → x.last ≡ last → TrailsAt h q (slot_with t last)
+pub met_trails : (h : List Event) (q : Req) (x : Submitted) (e : Entry) (t : Traits) (last : Bool) → submission h q ≡ Some x → IsPlaced h q e → traits_of e ≡ t → x.last ≡ last → TrailsAt h q (slot_with t last)
 met_trails h q x e t last sub placed traits ends = inl (record { handed = (x, sub, ends); placed = (e, placed, traits); outcome = λ f u. absurd (none-some f u) })
 
 pub stand_in_trails : (h : List Event) (q : Req) → IsChainDone h q → TrailsAt h q stand_in
@@ -85,7 +85,7 @@ lost_replied h i xs r k stands trails lt = (trailed h i xs trails).replied_is k 
 
 module _ (s : Setup) (e : Event) (h : List Event) (l : Legal s h) (a : MayCome s h e) where
   -- of what was handed in it was counted
-  submitted : (q : Req) (x : Submission) → submission h q ≡ Some x → q.k < submits h q.ring
+  submitted : (q : Req) (x : Submitted) → submission h q ≡ Some x → q.k < submits h q.ring
   submitted q x is = ⊎_elim (λ (c : q.k < submits h q.ring). c) (λ (c : submits h q.ring ≤ q.k). absurd (none-some x (sym (submission_none s h q l c) ∙ is))) (cases_lt q.k (submits h q.ring))
 
   pub outcome_stays : (q : Req) (f : Bool) → q.k < submits h q.ring → IsOutcome h q f → IsOutcome (e ∷ h) q f

@@ -2,7 +2,7 @@
 -- replied, agrees on each request whose chain has not.
 use Rattle.entry.specs.declared.op.Op.{Op}
 use Rattle.entry.specs.declared.op.Op.TheVariants.{LinkTimeout, Invalid}
-use Rattle.gates.proofs.Common.{Behind, Bool, Entry, Event, IsChainBefore, IsChainDone, IsOutcome, IsPlaced, IsReplied, List, None, Option, Req, Slot, Some, StandsIn, Submission, TrailedAt, Trails, Traits, and_left, and_right, ap, arith, before_in, behind, bool_cases, cases_lt, cond, drains, fails, fails_op, false, hosts, inl, inr, is_invalid, is_link_timeout, is_link_timeout_in, is_pending, is_severing, is_target_timer, is_unanswered, joins, joins_of, length, links, links_hard, ne_eqb, next_in, not, nth, phase, placed, placed_from, previous, refl, replied_of_reply, reply, severs, slice_get, submission, subst, suc, sym, test_at, traits_of, true, true≢false, zero, ℕ, ℤ, ⊎_elim, ◌&&◌, ◌-◌, ◌<◌, ◌||◌, ◌∙◌, ◌≡◌, ◌≤◌, ◌⊎◌}
+use Rattle.gates.proofs.Common.{Behind, Bool, Entry, Event, IsChainBefore, IsChainDone, IsOutcome, IsPlaced, IsReplied, List, None, Option, Req, Slot, Some, StandsIn, Submitted, TrailedAt, Trails, Traits, and_left, and_right, ap, arith, before_in, behind, bool_cases, cases_lt, cond, drains, fails, fails_op, false, hosts, inl, inr, is_invalid, is_link_timeout, is_link_timeout_in, is_pending, is_severing, is_target_timer, is_unanswered, joins, joins_of, length, links, links_hard, ne_eqb, next_in, not, nth, phase, placed, placed_from, previous, refl, replied_of_reply, reply, severs, slice_get, submission, subst, suc, sym, test_at, traits_of, true, true≢false, zero, ℕ, ℤ, ⊎_elim, ◌&&◌, ◌-◌, ◌<◌, ◌||◌, ◌∙◌, ◌≡◌, ◌≤◌, ◌⊎◌}
 use Rattle.gates.proofs.Lists.{get_there, one_some}
 use Rattle.gates.proofs.Bridge.{severing_parts, nobody}
 use Rattle.gates.proofs.Marks.{J, hosted_joined}
@@ -89,10 +89,10 @@ module _ (h : List Event) (i : ℕ) where
 
   module _ (xs : List Slot) (trails : Trails h i xs) where
     -- an entry as it was placed, of what was handed in
-    placed_parts : (q : Req) (x : Submission) (e : Entry) → submission h q ≡ Some x → IsPlaced h q e → e ≡ as_invalid (is_link_timeout x.entry.op && not (hosts (before_in h q))) x.entry
+    placed_parts : (q : Req) (x : Submitted) (e : Entry) → submission h q ≡ Some x → IsPlaced h q e → e ≡ as_invalid (is_link_timeout x.entry.op && not (hosts (before_in h q))) x.entry
     placed_parts q x e sub p = one_some _ _ (sym p ∙ ap (placed_from (before_in h q)) sub)
 
-    links_same : (q : Req) (x : Submission) (e : Entry) → submission h q ≡ Some x → IsPlaced h q e → links e ≡ links x.entry
+    links_same : (q : Req) (x : Submitted) (e : Entry) → submission h q ≡ Some x → IsPlaced h q e → links e ≡ links x.entry
     links_same q x e sub p = ap links (placed_parts q x e sub p) ∙ links_placed (is_link_timeout x.entry.op && not (hosts (before_in h q))) x.entry
 
     joins_real : (m : ℕ) (s : Slot) → TrailedAt h (nth i m) s → joins (submission h (nth i m)) ≡ joins_of s
@@ -150,7 +150,7 @@ module _ (h : List Event) (i : ℕ) where
     -- a LINK_TIMEOUT that is placed as such stands after one that hosts it, in the list too
     hosted_here : (k : ℕ) (s : Slot) → slice_get xs k ≡ Some s → k ≤ length xs → Live h i k → TrailedAt h (nth i k) s → s.traits.link_timeout ≡ true → (behind xs k).hosted ≡ true
     hosted_here k s e le live r is = by_number k refl le where
-      x : Submission
+      x : Submitted
       x = r.handed.0
 
       parts : ((is_link_timeout x.entry.op && not (hosts (before_in h (nth i k)))) ≡ false) × (is_link_timeout x.entry.op ≡ true)
@@ -172,7 +172,7 @@ module _ (h : List Event) (i : ℕ) where
           let js : joins_of t.0 ≡ true = sym (joins_real m t.0 q) ∙ ap joins y.1 ∙ y.2 in
           let nt : t.0.traits.link_timeout ≡ false = sym (ap (λ (z : Traits). z.link_timeout) q.placed.2) ∙ ap (λ (z : Entry). is_link_timeout z.op) (placed_parts (nth i m) y.0 q.placed.0 y.1 q.placed.1) ∙ no_timer_placed (is_link_timeout y.0.entry.op && not (hosts (before_in h (nth i m)))) y.0.entry y.3 in
           sym (ap (λ z. (behind xs z).hosted) u) ∙ ap (λ z. let n : Behind = next_in m z (behind xs m) in n.hosted) t.1 ∙ rw (js, nt) refl where
-            host_parts : (o : Option Submission) → submission h (nth i m) ≡ o → hosts (submission h (nth i m)) ≡ true → (y : Submission) × (submission h (nth i m) ≡ Some y) × ((links y.entry && not y.last) ≡ true) × (is_link_timeout y.entry.op ≡ false)
+            host_parts : (o : Option Submitted) → submission h (nth i m) ≡ o → hosts (submission h (nth i m)) ≡ true → (y : Submitted) × (submission h (nth i m) ≡ Some y) × ((links y.entry && not y.last) ≡ true) × (is_link_timeout y.entry.op ≡ false)
             host_parts None v w = absurd (true≢false (sym w ∙ ap hosts v))
             host_parts (Some y) v w = let w' : ((links y.entry && not y.last) && not (is_link_timeout y.entry.op)) ≡ true = sym (ap hosts v) ∙ w in
                 (y, v, and_left (links y.entry && not y.last) (not (is_link_timeout y.entry.op)) w', not_true_false (is_link_timeout y.entry.op) (and_right (links y.entry && not y.last) (not (is_link_timeout y.entry.op)) w'))

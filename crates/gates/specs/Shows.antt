@@ -3,7 +3,7 @@ use Rattle.std.specs.Prelude.{IsTrue, ◌≡◌, ◌⊎◌, ℕ, suc, ◌-◌, �
 use Rattle.entry.specs.Entry.{Entry, drains, fails}
 use Rattle.history.specs.declared.req.Req.{Req}
 use Rattle.history.specs.declared.event.Event.{Event}
-use Rattle.history.specs.{Submission, submission, phase, reply, IsReplied, joins, is_link_timeout, IsPlaced, IsChainBefore, IsChained, IsChainDone, IsTarget, Severed, Open, severs}
+use Rattle.history.specs.{Submitted, submission, phase, reply, IsReplied, joins, is_link_timeout, IsPlaced, IsChainBefore, IsChained, IsChainDone, IsTarget, Severed, Open, severs}
 use Rattle.gates.specs.declared.gate.Gate.{Gate}
 use Rattle.gates.specs.declared.gate.Asked.{Asked}
 use Rattle.gates.specs.Slots.{Slot, traits_of, IsPlain, is_pending, passes}
@@ -13,7 +13,7 @@ nth i k = record { ring = i; k = k }
 
 -- the slot has the traits of the request's entry as it was handed in, and its reply
 pub record ShownAt (h : List Event) (q : Req) (s : Slot) : Type 0 where
-  pub handed : (x : Submission) × (submission h q ≡ Some x) × (traits_of x.entry ≡ s.traits) × (x.last ≡ s.last)
+  pub handed : (x : Submitted) × (submission h q ≡ Some x) × (traits_of x.entry ≡ s.traits) × (x.last ≡ s.last)
   pub pending : is_pending s ≡ true → ¬ IsReplied (phase h q)
   pub replied : (f : Bool) → s.reply ≡ Some f → (res : ℤ) × (reply h q ≡ Some res) × ((e : Entry) → IsPlaced h q e → fails e res ≡ f)
 
@@ -55,7 +55,7 @@ IsOutcome h q f = ((e : Entry) × (res : ℤ) × IsPlaced h q e × (reply h q �
 -- the slot has the traits of the request's entry as it was placed, and, if it has one, the request's outcome. One that is
 -- pending in the slot may have replied
 pub record TrailedAt (h : List Event) (q : Req) (s : Slot) : Type 0 where
-  pub handed : (x : Submission) × (submission h q ≡ Some x) × (x.last ≡ s.last)
+  pub handed : (x : Submitted) × (submission h q ≡ Some x) × (x.last ≡ s.last)
   pub placed : (e : Entry) × IsPlaced h q e × (traits_of e ≡ s.traits)
   pub outcome : (f : Bool) → s.reply ≡ Some f → IsOutcome h q f
 
@@ -74,7 +74,7 @@ pub record Mirrors (h : List Event) (i : ℕ) (xs : List Slot) : Type 0 where
 
 -- it was handed in, and neither links nor drains, nor is it placed as a LINK_TIMEOUT
 pub record IsPlainAt (h : List Event) (q : Req) : Type 0 where
-  pub handed : (x : Submission) × (submission h q ≡ Some x) × (joins (Some x) ≡ false)
+  pub handed : (x : Submitted) × (submission h q ≡ Some x) × (joins (Some x) ≡ false)
   pub placed : (e : Entry) × IsPlaced h q e × (drains e ≡ false) × (is_link_timeout e.op ≡ false)
 
 -- the first n requests of the ring i are so

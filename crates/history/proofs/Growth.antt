@@ -1,5 +1,5 @@
 -- What stays true as a legal history grows: what was submitted, and what was answered.
-use Rattle.history.proofs.Common.{Arm, Begin, Bool, Cause, Count, Cut, Entry, Event, Expire, Fire, FireMiss, IsIdle, IsPending, IsReplied, Legal, List, MayCome, Miss, None, Park, Phase, Reap, Reply, Req, Settle, Setup, Sever, Shut, Some, Submission, Submit, Take, Tick, [], adds_to, ap, arith, armed, becomes, concerns, cond, eq-eqb, eqb, eqb-true, false, phase, reaped, refl, replied, reply, reply_in, runs, same, submission, submits, subst, sym, true, true≢false, unborn, waits, ℕ, ℤ, ⊎_elim, ◌<◌, ◌∙◌, ◌∷◌, ◌≡◌, ◌≤◌}
+use Rattle.history.proofs.Common.{Arm, Begin, Bool, Cause, Count, Cut, Entry, Event, Expire, Fire, FireMiss, IsIdle, IsPending, IsReplied, Legal, List, MayCome, Miss, None, Park, Phase, Reap, Reply, Req, Settle, Setup, Sever, Shut, Some, Submitted, Submit, Take, Tick, [], adds_to, ap, arith, armed, becomes, concerns, cond, eq-eqb, eqb, eqb-true, false, phase, reaped, refl, replied, reply, reply_in, runs, same, submission, submits, subst, sym, true, true≢false, unborn, waits, ℕ, ℤ, ⊎_elim, ◌<◌, ◌∙◌, ◌∷◌, ◌≡◌, ◌≤◌}
 use Rattle.history.proofs.Requests.{bool_cases, same_true}
 
 abbrev pub is_submit : Event → Bool
@@ -155,13 +155,13 @@ module _ (s : Setup) where
   submission_none (e ∷ h) q l le = none_after e h q l.0.1 (submission_none h q l.1 (let m : submits h q.ring ≤ submits (e ∷ h) q.ring = omega arith in omega arith)) le
 
   -- of one that was submitted it is known what was handed in
-  some_after : (e : Event) (h : List Event) (q : Req) → Legal s h → MayCome s h e → (q.k < submits h q.ring → (x : Submission) × (submission h q ≡ Some x)) → q.k < submits (e ∷ h) q.ring → (x : Submission) × (submission (e ∷ h) q ≡ Some x)
+  some_after : (e : Event) (h : List Event) (q : Req) → Legal s h → MayCome s h e → (q.k < submits h q.ring → (x : Submitted) × (submission h q ≡ Some x)) → q.k < submits (e ∷ h) q.ring → (x : Submitted) × (submission (e ∷ h) q ≡ Some x)
   some_after (Submit r e bytes last) h q l a ih le = ⊎_elim
       (λ (w : same r q ≡ true). (record { entry = e; bytes = bytes; last = last }, rw w refl))
       (λ (w : same r q ≡ false). let x = ih (earlier (Submit r e bytes last) h q a w le) in (x.0, rw w x.1)) (bool_cases (same r q))
   some_after e h q l a ih le = ih (omega arith)
 
-  pub submission_some : (h : List Event) (q : Req) → Legal s h → q.k < submits h q.ring → (x : Submission) × (submission h q ≡ Some x)
+  pub submission_some : (h : List Event) (q : Req) → Legal s h → q.k < submits h q.ring → (x : Submitted) × (submission h q ≡ Some x)
   submission_some [] q l le = absurd (omega arith)
   submission_some (e ∷ h) q l le = some_after e h q l.1 l.0.1 (λ m. submission_some h q l.1 m) le
 

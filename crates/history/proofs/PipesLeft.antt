@@ -1,6 +1,6 @@
 -- Pipes that a reply leaves as they were: those that its operation doesn't name, and all where it is an error.
 use Rattle.history.specs.Users.{is_at, uses_at, uses_at_in}
-use Rattle.history.proofs.Common.{Bool, Close, End, Entry, Flow, List, None, Op, Option, Read, Some, Splice, Submission, Write, [], ap, append-nil, arith, closes, cond, end_of, false, flows, flows_as, is_zero, negsuc, no_end, offered, read_end, reads, refl, size, sym, take, true, true≢false, write_end, writes, ℕ, ℤ, ◌&&◌, ◌++◌, ◌+◌, ◌==◌, ◌||◌, ◌∙◌, ◌≡◌}
+use Rattle.history.proofs.Common.{Bool, Close, End, Entry, Flow, List, None, Op, Option, Read, Some, Splice, Submitted, Write, [], ap, append-nil, arith, closes, cond, end_of, false, flows, flows_as, is_zero, negsuc, no_end, offered, read_end, reads, refl, size, sym, take, true, true≢false, write_end, writes, ℕ, ℤ, ◌&&◌, ◌++◌, ◌+◌, ◌==◌, ◌||◌, ◌∙◌, ◌≡◌}
 
 unread : (x : End) (res : ℤ) (p : ℕ) (w : Flow) → is_at x p ≡ false → reads x res p w ≡ w
 unread (read_end n) res p w u = ap (λ b. cond b (let a : Flow = record w { out = w.out + size res } in a) w) u
@@ -52,11 +52,11 @@ bad_flows (Close fd) bytes n p w = bad_close (end_of fd) n p w
 bad_flows (Splice fd_in fd_out len) bytes n p w = bad_read (end_of fd_in) n p _ ∙ bad_write (end_of fd_out) bytes n p w
 bad_flows op bytes n p w = refl
 
-pub all_flows : (o : Option Entry) (s : Option Submission) (before : ℕ → List ℕ) (res : ℤ) (p : ℕ) (w : Flow) → ((e : Entry) (bytes : List ℕ) → o ≡ Some e → flows e.op bytes res p w ≡ w) → flows_as o s before res p w ≡ w
+pub all_flows : (o : Option Entry) (s : Option Submitted) (before : ℕ → List ℕ) (res : ℤ) (p : ℕ) (w : Flow) → ((e : Entry) (bytes : List ℕ) → o ≡ Some e → flows e.op bytes res p w ≡ w) → flows_as o s before res p w ≡ w
 all_flows None s before res p w k = refl
 all_flows (Some e) None before res p w k = refl
 all_flows (Some e) (Some s) before res p w k = k e (offered e.op before s.bytes) refl
 
 -- a reply leaves the pipes that its entry doesn't name
-pub untouched : (o : Option Entry) (s : Option Submission) (before : ℕ → List ℕ) (res : ℤ) (p : ℕ) (w : Flow) → uses_at_in o p ≡ false → flows_as o s before res p w ≡ w
+pub untouched : (o : Option Entry) (s : Option Submitted) (before : ℕ → List ℕ) (res : ℤ) (p : ℕ) (w : Flow) → uses_at_in o p ≡ false → flows_as o s before res p w ≡ w
 untouched o s before res p w t = all_flows o s before res p w (λ e bytes is. unused e.op bytes res p w (sym (ap (λ x. uses_at_in x p) is) ∙ t))

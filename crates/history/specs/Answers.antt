@@ -9,7 +9,7 @@ use Rattle.level.specs.declared.level.Level.{Level}
 use Rattle.level.specs.Replies.{size, read_reply, write_reply, splice_reply, close_reply, poll_reply}
 use Rattle.history.specs.declared.req.Req.{Req}
 use Rattle.history.specs.declared.event.Event.{Event}
-use Rattle.history.specs.History.{Hit, nothing, took, missed, hit, tally, has_missed, phase, IsReplied}
+use Rattle.history.specs.History.{Hit, nothing, took, missed, hit, taken_count, has_missed, phase, IsReplied}
 use Rattle.history.specs.Chains.{is_link_timeout, is_timeout, IsBefore, IsPlaced}
 use Rattle.history.specs.Pipes.{Flow, flow, content, End, no_end, read_end, write_end, end_of}
 
@@ -131,12 +131,12 @@ AllTried h c x = (q : Req) → Matches h c q → IsReplied (phase h q) ⊎ (has_
 -- 0 where it took its target, -114 (EALREADY) where that was found running, -2 (ENOENT) where there is none (io_uring_prep_cancel64(3))
 abbrev pub CancelAnswers : List Event → Req → Hit → ℤ → Type 0
 CancelAnswers h c (took t x) res = res ≡ pos 0
-CancelAnswers h c (missed t x) res = res ≡ cond (nat_lt 0 (tally x)) (pos 0) (negsuc 113)
+CancelAnswers h c (missed t x) res = res ≡ cond (nat_lt 0 (taken_count x)) (pos 0) (negsuc 113)
 CancelAnswers h c nothing res = (res ≡ negsuc 1) × NoneLeft h c
 
 -- of a cancel of all its matches: how many it took (that those alone count is this profile)
 abbrev pub CancelBy : Bool → List Event → Req → Hit → ℤ → Type 0
-CancelBy true h c x res = (res ≡ pos (tally x)) × AllTried h c x
+CancelBy true h c x res = (res ≡ pos (taken_count x)) × AllTried h c x
 CancelBy false h c x res = CancelAnswers h c x res
 
 -- that of an operation of a worker

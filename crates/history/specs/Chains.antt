@@ -6,7 +6,7 @@ use Rattle.entry.specs.Entry.{Entry, links, links_hard, drains, fails}
 pub use Rattle.entry.specs.Entry.{is_link_timeout}
 use Rattle.history.specs.declared.req.Req.{Req}
 use Rattle.history.specs.declared.event.Event.{Event}
-use Rattle.history.specs.History.{Submission, submission, phase, reply, IsReplied}
+use Rattle.history.specs.History.{Submitted, submission, phase, reply, IsReplied}
 
 abbrev pub is_timeout : Op → Bool
 is_timeout (Timeout ticks etime_success count) = true
@@ -21,27 +21,27 @@ is_invalid Invalid = true
 is_invalid _ = false
 
 -- the next entry of the ring is in its chain: it has a link flag and does not end its batch (io_uring_enter(2), IOSQE_IO_LINK)
-abbrev pub joins : Option Submission → Bool
+abbrev pub joins : Option Submitted → Bool
 joins None = false
 joins (Some s) = links s.entry && not s.last
 
 -- a LINK_TIMEOUT may stand directly after it (io_uring_prep_link_timeout(3))
-abbrev pub hosts : Option Submission → Bool
+abbrev pub hosts : Option Submitted → Bool
 hosts None = false
 hosts (Some s) = (links s.entry && not s.last) && not (is_link_timeout s.entry.op)
 
 -- a LINK_TIMEOUT that begins a chain, or stands directly after another, is placed as Invalid (this profile)
-abbrev pub placed_behind : Option Submission → Entry → Entry
+abbrev pub placed_behind : Option Submitted → Entry → Entry
 placed_behind before e = cond (is_link_timeout e.op && not (hosts before)) (record e { op = Invalid }) e
 
 -- the request before this one in its ring
 abbrev pub previous : Req → Req
 previous r = record { ring = r.ring; k = r.k - 1 }
 
-abbrev pub before_in : List Event → Req → Option Submission
+abbrev pub before_in : List Event → Req → Option Submitted
 before_in h r = cond (r.k == 0) None (submission h (previous r))
 
-abbrev pub placed_from : Option Submission → Option Submission → Option Entry
+abbrev pub placed_from : Option Submitted → Option Submitted → Option Entry
 placed_from before None = None
 placed_from before (Some s) = Some (placed_behind before s.entry)
 

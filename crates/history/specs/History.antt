@@ -34,7 +34,7 @@ pub data Hit : Type 0 where
   missed : Req → Hit → Hit
 
 -- an entry as it was handed in: with its buffer, and whether it ended its batch
-pub record Submission : Type 0 where
+pub record Submitted : Type 0 where
   pub entry : Entry
   pub bytes : List ℕ
   pub last : Bool
@@ -161,10 +161,10 @@ hit [] q = nothing
 hit (e ∷ h) q = hits e q (hit h q)
 
 -- how many requests it took
-abbrev pub tally : Hit → ℕ
-tally nothing = 0
-tally (took t x) = suc (tally x)
-tally (missed t x) = tally x
+abbrev pub taken_count : Hit → ℕ
+taken_count nothing = 0
+taken_count (took t x) = suc (taken_count x)
+taken_count (missed t x) = taken_count x
 
 -- it found the request k of its ring running
 abbrev pub has_missed : Hit → ℕ → Bool
@@ -172,12 +172,12 @@ has_missed nothing k = false
 has_missed (took t x) k = has_missed x k
 has_missed (missed t x) k = (t.k == k) || has_missed x k
 
-abbrev pub hands_in : Event → Req → Option Submission → Option Submission
+abbrev pub hands_in : Event → Req → Option Submitted → Option Submitted
 hands_in (Submit r e bytes last) q x = cond (same r q) (Some (record { entry = e; bytes = bytes; last = last })) x
 hands_in _ q x = x
 
 -- what was handed in as this request
-abbrev pub submission : List Event → Req → Option Submission
+abbrev pub submission : List Event → Req → Option Submitted
 submission [] q = None
 submission (e ∷ h) q = hands_in e q (submission h q)
 

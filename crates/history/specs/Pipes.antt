@@ -6,7 +6,7 @@ use Rattle.entry.specs.Entry.{Entry}
 pub use Rattle.level.specs.Replies.{size}
 use Rattle.history.specs.declared.event.Event.{Event}
 use Rattle.history.specs.declared.event.Event.TheVariants.{Reply}
-use Rattle.history.specs.History.{Submission, submission}
+use Rattle.history.specs.History.{Submitted, submission}
 use Rattle.history.specs.Chains.{placed}
 
 -- all bytes that went in, the number that came out, and the closed ends (pipe(7))
@@ -69,7 +69,7 @@ offered (Write fd offset len) before bytes = bytes
 offered (Splice fd_in fd len) before bytes = given_at (end_of fd_in) before
 offered _ before bytes = []
 
-abbrev pub flows_as : Option Entry → Option Submission → (ℕ → List ℕ) → ℤ → ℕ → Flow → Flow
+abbrev pub flows_as : Option Entry → Option Submitted → (ℕ → List ℕ) → ℤ → ℕ → Flow → Flow
 flows_as (Some e) (Some s) before res p w = flows e.op (offered e.op before s.bytes) res p w
 flows_as _ _ before res p w = w
 

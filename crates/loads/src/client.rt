@@ -1,7 +1,7 @@
 //! A client at work on its load.
 ghost use Rattle.std.specs.Prelude.{◌≡◌};
 
-use crate::load::{Fault, Load, Told};
+use crate::load::{Counts, Fault, Load};
 use anyhow::{Result, bail};
 use board::{Completion, SubmitError};
 use runtime::Client;
@@ -13,15 +13,39 @@ use std::time::{Clock, Duration};
 const LOOKS: u32 = 256;
 
 /// A client and its load, how long it sleeps before each round, and what was submitted and taken.
-#[derive(Drop)]
 pub(crate) struct Driver<L: Load> {
     pub client: Client,
     pub load: L,
     pub pause: Duration,
-    pub told: Told,
+    pub counts: Counts,
 }
 
 impl<L: Load> Driver<L> {
+    /// That of this client and this load, with nothing submitted yet.
+    pub fn new(client: Client, load: L, pause: Duration) -> Driver<L>
+        ensures { result.client ≡ client }
+    {
+        Driver {
+            client,
+            load,
+            pause,
+            counts: Counts::default(),
+        }
+    }
+
+    /// Its client and its load.
+    pub fn parts(self) -> (Client, L)
+        ensures { result.0 ≡ self.client }
+    {
+        let Driver {
+            client,
+            load,
+            pause: _,
+            counts: _,
+        } = self;
+        (client, load)
+    }
+
     /// Carries a round of the load out, of so many units or turns.
     pub fn serve<R: Wait + Clock>(&mut self, rt: &R, count: u64) -> Result<()>
         ensures { self.new.client.board ≡ self.old.client.board }
@@ -67,7 +91,7 @@ impl<L: Load> Driver<L> {
             Err((SubmitError::Full, batch)) => return Ok(self.load.refused(batch)),
             Err(_) => return Err(Fault::Refused),
         }
-        self.told.submitted = self.told.submitted.saturating_add(count);
+        self.counts.submitted = self.counts.submitted.saturating_add(count);
         if awaited == 1 {
             let completion = self.client.wait(rt);
             self.take(completion)?;
@@ -79,7 +103,7 @@ impl<L: Load> Driver<L> {
     fn take(&mut self, completion: Completion) -> Result<(), Fault>
         ensures { self.new.client ≡ self.old.client }
     {
-        self.told.taken = self.told.taken.saturating_add(1);
+        self.counts.taken = self.counts.taken.saturating_add(1);
         self.load.take(completion)
     }
 }

@@ -1,8 +1,9 @@
 //! A runtime of two rings, with one or two clients at work.
-ghost use Rattle.std.specs.Prelude.{◌≡◌, None, IfOk};
+ghost use Rattle.std.specs.Prelude.{◌≡◌, None, IfOk, length};
+ghost use Rattle.runtime.specs.{AreClients};
 
 use crate::client::Driver;
-use crate::load::{Load, Told};
+use crate::load::{Counts, Load};
 use crate::machine::{Machine, nanos_since};
 use crate::pipes::{CAPACITY, PIPES};
 use crate::setup::{Kind, Setup};
@@ -33,35 +34,38 @@ impl Controls for Ticking {
         None
     }
 
-    fn tell(&mut self, now: u32, _phase: Option<Phase>) -> Option<u32> {
+    fn advance(&mut self, now: u32, _phase: Option<Phase>) -> Option<u32> {
         self.turns = self.turns.wrapping_add(1);
         let is_time = self.turns.checked_rem(self.every) == Some(0);
         if is_time { now.checked_add(1) } else { None }
     }
 }
 
-/// A runtime, and the clients of ring 0 and ring 1 with their loads. Both are at work, or only the first.
-#[derive(Drop)]
+/// A runtime, the clients of ring 0 and ring 1 with their loads, and an empty list with room for both. Both are at work, or only the
+/// first. It is ended, never dropped: its threads would go on.
 pub(crate) struct Fleet<L: Load> {
     runtime: Runtime<Ticking>,
     zero: Driver<L>,
     one: Driver<L>,
+    room: Vec<Client>,
     are_two: bool,
 }
 
 impl<L: Load> Model for Fleet<L> {
-    ghost use Rattle.std.specs.Prelude.{◌≡◌};
+    ghost use Rattle.std.specs.Prelude.{◌≡◌, ◌≤◌, [], vec_capacity};
     ghost use Rattle.work.specs.Board.{Facts};
 
     ghost Value = { Facts };
 
     ghost view = { λ f. f.runtime.board };
 
-    ghost invariant = { λ f. (f.zero.client.board ≡ f.runtime.board) × (f.one.client.board ≡ f.runtime.board) };
+    ghost invariant = { λ f. (f.zero.client.board ≡ f.runtime.board) × (f.one.client.board ≡ f.runtime.board) × ((f.room.items ≡ []) × (2 ≤ vec_capacity f.room)) };
 }
 
 /// The board of a setup.
-fn shape_of(alloc: Global, setup: &Setup) -> Result<Shape, AllocError> {
+fn shape_of(alloc: Global, setup: &Setup) -> Result<Shape, AllocError>
+    ensures { IfOk result (λ s. length s.rings.items ≡ 2) }
+{
     let (cells, posts) = (setup.cells, setup.posts);
     let (pipes, room) = match setup.kind {
         Kind::Mixed { .. } => (PIPES, CAPACITY),
@@ -74,21 +78,13 @@ fn shape_of(alloc: Global, setup: &Setup) -> Result<Shape, AllocError> {
     })
 }
 
-/// Ends the runtime of these two clients.
-fn join<R: Machine>(rt: &R, runtime: Runtime<Ticking>, zero: Client, one: Client) -> Result<Report>
-    requires zero { zero.board ≡ runtime.board }
-    requires one { one.board ≡ runtime.board }
+/// Ends the runtime of these clients.
+fn join<R: Machine>(rt: &R, runtime: Runtime<Ticking>, clients: Vec<Client>) -> Result<Report>
+    requires { AreClients runtime.board clients.items }
 {
-    let Ok(mut clients) = Vec::with_capacity(rt.alloc(), 2) else {
-        drop((runtime, zero, one));
-        bail!("no memory was found");
-    };
-    let (Ok(()), Ok(())) = (clients.push(zero), clients.push(one)) else {
-        unreachable!()
-    };
     match join_all(rt, rt.alloc(), runtime, clients) {
         Ok(report) => Ok(report),
-        Err(unjoined) => Err(unjoined.error.into()),
+        Err(unjoined) => Err(unjoined.abandon(rt).into()),
     }
 }
 
@@ -112,7 +108,7 @@ fn serve_both<R: Threads + Wait + Sync + Clock, L: Load + Send>(
 }
 
 /// Hands what the report says of each request to the load of its ring.
-fn tell<L: Load>(first: &mut L, second: &mut L, report: &Report) -> Result<()> {
+fn note_report<L: Load>(first: &mut L, second: &mut L, report: &Report) -> Result<()> {
     for (completion, is_cut) in report.lines() {
         match completion.req.ring {
             0 => first.report(completion, *is_cut)?,
@@ -133,8 +129,9 @@ fn loads_of<L: Load>(alloc: Global, setup: &Setup) -> Result<(L, L), AllocError>
 }
 
 /// A started runtime, and its clients.
-fn started<R: Machine>(rt: &R, setup: &Setup) -> Result<(Runtime<Ticking>, Client, Client)>
-    ensures { IfOk result (λ t. (t.1.board ≡ t.0.board) × (t.2.board ≡ t.0.board)) }
+fn started<R: Machine>(rt: &R, setup: &Setup) -> Result<(Runtime<Ticking>, Vec<Client>)>
+    ensures own { IfOk result (λ t. AreClients t.0.board t.1.items) }
+    ensures count { IfOk result (λ t. length t.1.items ≡ 2) }
 {
     let alloc = rt.alloc();
     let shape = shape_of(alloc, setup)?;
@@ -142,66 +139,63 @@ fn started<R: Machine>(rt: &R, setup: &Setup) -> Result<(Runtime<Ticking>, Clien
         every: setup.every,
         turns: 0,
     };
-    let (runtime, mut clients) = match start(*rt, alloc, &shape, setup.idle, Open, clock) {
-        Ok(started) => started,
-        Err(error) => {
-            drop(shape);
-            return Err(error.into());
-        }
-    };
-    drop(shape);
-    let (Some(one), Some(zero)) = (clients.pop(), clients.pop()) else {
-        drop((runtime, clients));
-        bail!("a client is missing");
-    };
-    Ok((runtime, zero, one))
+    match start(*rt, alloc, &shape, setup.idle, Open, clock) {
+        Ok(started) => Ok(started),
+        Err(error) => Err(error.into()),
+    }
 }
 
 impl<L: Load> Fleet<L> {
     /// Starts the runtime of a setup.
     pub fn start<R: Machine>(rt: &R, setup: &Setup) -> Result<Fleet<L>> {
         let (first, second) = loads_of(rt.alloc(), setup)?;
-        let (runtime, zero, one) = match started(rt, setup) {
+        let (runtime, mut room) = match started(rt, setup) {
             Ok(started) => started,
             Err(error) => {
                 drop((first, second));
                 return Err(error);
             }
         };
+        let Some(one) = room.pop() else {
+            unreachable!()
+        };
+        let Some(zero) = room.pop() else {
+            unreachable!()
+        };
         Ok(Fleet {
             runtime,
-            zero: Driver {
-                client: zero,
-                load: first,
-                pause: setup.pause,
-                told: Told::default(),
-            },
-            one: Driver {
-                client: one,
-                load: second,
-                pause: Duration::ZERO,
-                told: Told::default(),
-            },
+            zero: Driver::new(zero, first, setup.pause),
+            one: Driver::new(one, second, Duration::ZERO),
+            room,
             are_two: setup.clients == 2,
         })
     }
 
     /// What its clients have counted.
-    pub fn told(&self) -> Told {
-        self.zero.told.plus(self.one.told)
+    pub fn counts(&self) -> Counts {
+        self.zero.counts.plus(self.one.counts)
     }
 
     /// Ends the runtime, and hands its report to the loads. What was counted then: each request once.
-    pub fn end<R: Machine>(self, rt: &R) -> Result<Told> {
-        let (mut told, zero, one) = (self.told(), self.zero, self.one);
-        let (mut first, mut second) = (zero.load, one.load);
-        let report = join(rt, self.runtime, zero.client, one.client)?;
-        tell(&mut first, &mut second, &report)?;
-        told.reported = report.lines().len() as u64;
-        if told.submitted != told.taken.saturating_add(told.reported) {
+    pub fn end<R: Machine>(self, rt: &R) -> Result<Counts> {
+        let mut counts = self.counts();
+        let Fleet {
+            runtime,
+            zero,
+            one,
+            mut room,
+            are_two: _,
+        } = self;
+        let ((one, mut second), (zero, mut first)) = (one.parts(), zero.parts());
+        room.push_reserved(one);
+        room.push_reserved(zero);
+        let report = join(rt, runtime, room)?;
+        note_report(&mut first, &mut second, &report)?;
+        counts.reported = report.lines().len() as u64;
+        if counts.submitted != counts.taken.saturating_add(counts.reported) {
             bail!("a request was neither taken nor reported");
         }
-        Ok(told)
+        Ok(counts)
     }
 }
 

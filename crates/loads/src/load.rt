@@ -11,16 +11,16 @@ pub(crate) type Batch = Vec<(Sqe, Vec<u8>)>;
 
 /// How many requests were submitted, how many completions were taken, and how many requests were reported.
 #[derive(Clone, Copy, Default)]
-pub(crate) struct Told {
+pub(crate) struct Counts {
     pub submitted: u64,
     pub taken: u64,
     pub reported: u64,
 }
 
-impl Told {
+impl Counts {
     /// Both together.
-    pub fn plus(self, other: Told) -> Told {
-        Told {
+    pub fn plus(self, other: Counts) -> Counts {
+        Counts {
             submitted: self.submitted.saturating_add(other.submitted),
             taken: self.taken.saturating_add(other.taken),
             reported: self.reported.saturating_add(other.reported),
@@ -53,7 +53,10 @@ impl fmt::Display for Fault {
             Fault::Refused => f.write_str("a batch was refused that should fit"),
             Fault::InUse(number) => write!(f, "request {number} has a cell that is in use"),
             Fault::Twice(number) => {
-                write!(f, "request {number} was told twice, or never submitted")
+                write!(
+                    f,
+                    "request {number} has two completions, or was never submitted"
+                )
             }
             Fault::Reply(number, reply) => {
                 write!(f, "request {number} can't have the reply {reply}")

@@ -84,7 +84,7 @@ impl Rounds {
         for n in 0..times {
             let word = match self.kind {
                 Loop::Pack => pack(self.words[n % 16]),
-                _ => told_by(self.bits[n % 16]),
+                _ => bits_of(self.bits[n % 16]),
             };
             sum = sum.rotate_left(1) ^ word;
         }
@@ -114,7 +114,7 @@ fn said_by(bytes: &[u8; 64]) -> u64 {
 }
 
 /// Unpacks these bits.
-fn told_by(bits: u64) -> u64 {
+fn bits_of(bits: u64) -> u64 {
     let Some(word) = unpack(bits) else {
         return 0;
     };

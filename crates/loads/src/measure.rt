@@ -48,14 +48,16 @@ macro_rules! median {
 /// How many units a round has, and with what the time of one is compared.
 type Plan = (u64, u64);
 
-/// Whether things are timed, or only tried; and the times of the hand-overs, in hundredths of a nanosecond.
+/// Whether things are timed, or only tried; what must stand in the name of a setup that is; and the times of the hand-overs, in
+/// hundredths of a nanosecond.
 #[derive(Clone, Copy)]
-struct Bench {
+struct Bench<'a> {
     is_timed: bool,
+    only: &'a str,
     others: [u64; 3],
 }
 
-impl Bench {
+impl<'a> Bench<'a> {
     /// How many units a round has: so many, or a few where they are only tried.
     fn units(&self, units: u64) -> u64 {
         if self.is_timed { units } else { 320 }
@@ -75,8 +77,17 @@ impl Bench {
         Ok(unit)
     }
 
-    /// The time of a unit of this setup.
+    /// The time of a round of so many units.
+    fn rounds<R: Machine>(&self, rt: &R, fleet: &mut Fleet<Units>, units: u64) -> Result<u64> {
+        Ok(median!(self.is_timed, round_of(rt, fleet, units)))
+    }
+
+    /// The time of a unit of this setup, if its name is one of those.
     fn measure<R: Machine>(&self, rt: &R, setup: Setup) -> Result<()> {
+        let name = format!(in rt.alloc(); "{setup}")?;
+        if !name.contains(self.only) {
+            return Ok(());
+        }
         let [single, many, blocking] = self.others;
         let units = self.units(4_000 * u64::from(setup.depth.clamp(1, 16)));
         let plan = match setup.kind {
@@ -85,10 +96,9 @@ impl Bench {
             _ => (units, if setup.depth == 1 { single } else { many }),
         };
         let mut fleet = Fleet::<Units>::start(rt, &setup)?;
-        let nanos = median!(self.is_timed, round_of(rt, &mut fleet, plan.0));
+        let nanos = self.rounds(rt, &mut fleet, plan.0);
         fleet.end(rt)?;
-        let name = format!(in rt.alloc(); "{setup}")?;
-        self.show(rt, name.as_str(), nanos, plan)?;
+        self.show(rt, name.as_str(), nanos?, plan)?;
         Ok(())
     }
 
@@ -119,10 +129,14 @@ impl Bench {
     }
 }
 
-/// Measures everything and prints it, or only tries it.
-pub(crate) fn measure<R: Machine>(rt: &R, is_timed: bool) -> Result<()> {
+/// Measures everything and prints it, or only tries it. Of the runtime's setups only those are measured whose name has this in it.
+pub(crate) fn measure<R: Machine>(rt: &R, is_timed: bool, only: &str) -> Result<()> {
     let others = [0; 3];
-    let mut bench = Bench { is_timed, others };
+    let mut bench = Bench {
+        is_timed,
+        only,
+        others,
+    };
     for i in 0..3usize {
         let (name, depth, is_blocking, units) = HAND_OVERS[i];
         let lanes = HandOver::new(rt.alloc(), depth, is_blocking)?;

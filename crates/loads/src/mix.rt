@@ -101,7 +101,7 @@ impl Mix {
     }
 
     /// Notes a completion. Its request had none before, and may have this one, with this buffer.
-    fn tell(&mut self, completion: &Completion, is_cut: bool) -> Result<(), Fault> {
+    fn check(&mut self, completion: &Completion, is_cut: bool) -> Result<(), Fault> {
         let (number, cqe) = (completion.req.k, completion.cqe);
         let record = self.place(number).and_then(|place| place.take());
         let Some(record) = record.filter(|record| record.number == number) else {
@@ -192,11 +192,11 @@ impl Load for Mix {
 
     fn take(&mut self, completion: Completion) -> Result<(), Fault> {
         self.taken = self.taken.saturating_add(1);
-        self.tell(&completion, false)
+        self.check(&completion, false)
     }
 
     fn report(&mut self, completion: &Completion, is_cut: bool) -> Result<()> {
-        match self.tell(completion, is_cut) {
+        match self.check(completion, is_cut) {
             Ok(()) => Ok(()),
             Err(fault) => bail!("{fault}"),
         }

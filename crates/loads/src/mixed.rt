@@ -1,7 +1,7 @@
 //! Runtimes under the mixed load: one for so long, and one after another, each ended at a moment of its own.
 use crate::draws::Draws;
 use crate::fleet::{Fleet, round_of};
-use crate::load::Told;
+use crate::load::Counts;
 use crate::machine::{Machine, status};
 use crate::mix::Mix;
 use crate::setup::{Kind, Setup};
@@ -9,14 +9,20 @@ use anyhow::Result;
 use std::time::{Duration, Instant};
 
 /// Prints what was counted, if so many tenths of so many seconds have gone by since the start. The tenths to look for next.
-fn look<R: Machine>(rt: &R, start: Instant, seconds: u64, part: u64, told: Told) -> Result<u64> {
+fn look<R: Machine>(
+    rt: &R,
+    start: Instant,
+    seconds: u64,
+    part: u64,
+    counts: Counts,
+) -> Result<u64> {
     let millis = seconds.saturating_mul(100).saturating_mul(part);
     if start.elapsed(rt)? < Duration::from_millis(millis) {
         return Ok(part);
     }
     let memory = status(rt, "VmRSS:").unwrap_or(0);
     let threads = status(rt, "Threads:").unwrap_or(0);
-    let (submitted, taken, reported) = (told.submitted, told.taken, told.reported);
+    let (submitted, taken, reported) = (counts.submitted, counts.taken, counts.reported);
     println!(rt;
         "{part}0 %: {submitted} submitted, {taken} taken, {reported} reported; {memory} kB, threads {threads}"
     )?;
@@ -28,7 +34,7 @@ fn go_on<R: Machine>(rt: &R, fleet: &mut Fleet<Mix>, seconds: u64) -> Result<()>
     let (start, mut part) = (Instant::now(rt)?, 1);
     for _ in rt.forever() {
         round_of(rt, fleet, 5_000)?;
-        part = look(rt, start, seconds, part, fleet.told())?;
+        part = look(rt, start, seconds, part, fleet.counts())?;
         if 10 < part {
             break;
         }
@@ -42,9 +48,9 @@ pub(crate) fn run_mixed<R: Machine>(rt: &R, seconds: u64) -> Result<()> {
     (setup.cells, setup.idle, setup.every) = (256, 8, 4);
     let mut fleet = Fleet::start(rt, &setup)?;
     let (start, gone) = (Instant::now(rt), go_on(rt, &mut fleet, seconds));
-    let told = fleet.end(rt);
+    let counts = fleet.end(rt);
     gone?;
-    look(rt, start?, 0, 10, told?)?;
+    look(rt, start?, 0, 10, counts?)?;
     Ok(())
 }
 
@@ -60,23 +66,23 @@ fn setup_of(draws: &mut Draws) -> Setup {
 }
 
 /// Puts one runtime under the load, ends it at a random moment, and gives what was counted.
-fn soak_one<R: Machine>(rt: &R, draws: &mut Draws) -> Result<Told> {
+fn soak_one<R: Machine>(rt: &R, draws: &mut Draws) -> Result<Counts> {
     let (setup, turns) = (setup_of(draws), u64::from(draws.below(10_000)));
     let mut fleet = Fleet::<Mix>::start(rt, &setup)?;
     let gone = round_of(rt, &mut fleet, turns);
-    let told = fleet.end(rt)?;
+    let counts = fleet.end(rt)?;
     gone?;
-    Ok(told)
+    Ok(counts)
 }
 
 /// Puts runtimes, drawn from this seed, under the load for so many seconds, and ends each at a random moment.
 pub(crate) fn run_soak<R: Machine>(rt: &R, seconds: u64, seed: u64) -> Result<()> {
-    let (mut draws, mut told, mut runtimes) = (Draws::new(seed), Told::default(), 0u64);
+    let (mut draws, mut counts, mut runtimes) = (Draws::new(seed), Counts::default(), 0u64);
     let (start, mut part) = (Instant::now(rt)?, 1);
     for _ in rt.forever() {
-        told = told.plus(soak_one(rt, &mut draws)?);
+        counts = counts.plus(soak_one(rt, &mut draws)?);
         runtimes = runtimes.saturating_add(1);
-        part = look(rt, start, seconds, part, told)?;
+        part = look(rt, start, seconds, part, counts)?;
         if 10 < part {
             break;
         }

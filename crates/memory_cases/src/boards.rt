@@ -2,7 +2,7 @@
 ghost use Rattle.std.specs.Prelude.{◌≡◌, All, IfOk, IfSome, length};
 ghost use Rattle.work.specs.Board.{IsOf};
 
-use crate::told::{Call, Handed, Lines, Shown};
+use crate::lines::{Call, Handed, Lines, Shown};
 use board::{Board, BoardError, Poller, Report, RingShape, Shape, Submitter, Worker};
 use entry::Sqe;
 use prep::{nop, read};
@@ -81,7 +81,7 @@ impl Handed<()> for Whole {
             .finish(alloc, self.poller, self.submitters, self.workers)
         {
             Ok(report) => {
-                tell_report(&report, gave);
+                show_report(&report, gave);
                 None
             }
             Err(it) => {
@@ -103,7 +103,7 @@ impl Handed<()> for Whole {
 }
 
 /// Tells the lines of a report.
-pub(crate) fn tell_report(report: &Report, gave: &mut Shown) {
+pub(crate) fn show_report(report: &Report, gave: &mut Shown) {
     gave.text(" reports");
     for (completion, is_cut) in report.lines() {
         gave.req(completion.req);
@@ -149,11 +149,11 @@ fn whole_of(alloc: Global, shape: &Shape) -> Option<Whole> {
 }
 
 /// A board is made, and another is ended.
-pub(crate) fn tell_boards(lines: &mut Lines) {
+pub(crate) fn try_boards(lines: &mut Lines) {
     if let Some(mut shape) = shape_of(lines.alloc, 2, 4, 2) {
         let mut whole = whole_of(lines.alloc, &shape);
-        lines.tell(&(), "Board::new", &mut shape);
-        lines.tell(&(), "Board::finish", &mut whole);
+        lines.try_call(&(), "Board::new", &mut shape);
+        lines.try_call(&(), "Board::finish", &mut whole);
         drop(whole);
     }
 }

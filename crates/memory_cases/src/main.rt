@@ -3,22 +3,22 @@
 #![tactic(auto)]
 
 mod boards;
+mod lines;
 mod objects;
 mod parts;
 mod scripts;
 mod threads;
-mod told;
 mod turns;
 
 use std::io;
 
 fn main(rt: HostRuntime) -> io::Result<()> {
-    let mut lines = told::Lines::new(rt.alloc())?;
-    parts::tell_parts(&rt, &mut lines);
-    objects::tell_objects(&mut lines);
-    boards::tell_boards(&mut lines);
-    turns::tell_turns(&rt, &mut lines);
-    scripts::tell_scripts(&mut lines);
-    threads::tell_threads(&rt, &mut lines);
+    let mut lines = lines::Lines::new(rt.alloc())?;
+    parts::try_parts(&rt, &mut lines);
+    objects::try_objects(&mut lines);
+    boards::try_boards(&mut lines);
+    turns::try_turns(&rt, &mut lines);
+    scripts::try_scripts(&mut lines);
+    threads::try_threads(&rt, &mut lines);
     print!(rt; "{}", lines.as_str())
 }

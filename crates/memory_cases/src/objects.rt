@@ -1,5 +1,5 @@
 //! The one-thread ring, event by event.
-use crate::told::{Call, Lines, Shown};
+use crate::lines::{Call, Lines, Shown};
 use entry::Sqe;
 use history::{Bytes, Event, Req};
 use model::Object;
@@ -81,7 +81,7 @@ impl Call<()> for Walk {
 }
 
 /// Each event of the walk.
-pub(crate) fn tell_objects(lines: &mut Lines) {
+pub(crate) fn try_objects(lines: &mut Lines) {
     let Ok(object) = Object::new(lines.alloc, 1, &[4]) else {
         return;
     };
@@ -91,6 +91,6 @@ pub(crate) fn tell_objects(lines: &mut Lines) {
     };
     for step in 0..14u8 {
         walk.event = event_at(lines.alloc, step);
-        lines.tell(&(), "Object::apply", &mut walk);
+        lines.try_call(&(), "Object::apply", &mut walk);
     }
 }

@@ -2,8 +2,8 @@
 ghost use Rattle.std.specs.Prelude.{All};
 ghost use Rattle.ready.specs.Ready.{IsOf};
 
+use crate::lines::{Call, Handed, Lines, Shown};
 use crate::objects::req;
-use crate::told::{Call, Handed, Lines, Shown};
 use bell::Bell;
 use compring::CompletionRing;
 use gates::Row;
@@ -180,26 +180,26 @@ impl Call<()> for Arm {
     }
 }
 
-fn tell_posts(lines: &mut Lines) {
+fn try_posts(lines: &mut Lines) {
     if let Some(ring) = full_ring(lines.alloc, req(0)) {
-        lines.tell(&(), "CompletionRing::post", &mut Post(ring));
+        lines.try_call(&(), "CompletionRing::post", &mut Post(ring));
     }
 }
 
-fn tell_delivery(lines: &mut Lines) {
+fn try_delivery(lines: &mut Lines) {
     if let (Some(outbox), Some(ring)) = (two_waiting(lines.alloc), full_ring(lines.alloc, req(9))) {
-        lines.tell(&(), "deliver", &mut Delivery { outbox, ring });
+        lines.try_call(&(), "deliver", &mut Delivery { outbox, ring });
     }
 }
 
-fn tell_timers(lines: &mut Lines) {
+fn try_timers(lines: &mut Lines) {
     let mut arm = Arm {
         timers: Timers::new(lines.alloc),
         next: (0, 0),
     };
     for next in ARMED {
         arm.next = *next;
-        lines.tell(&(), "Timers::arm", &mut arm);
+        lines.try_call(&(), "Timers::arm", &mut arm);
     }
 }
 
@@ -250,23 +250,23 @@ fn put<R: Wait>(rt: &R, queue: &ReadyQueue, passes: &mut Vec<ReadyPass>, k: u64)
 }
 
 /// A queue with three requests is ended.
-fn tell_queue<R: Wait>(rt: &R, lines: &mut Lines) {
+fn try_queue<R: Wait>(rt: &R, lines: &mut Lines) {
     if let Ok((queue, mut passes)) = ReadyQueue::new(lines.alloc, 4, 2) {
         put(rt, &queue, &mut passes, 0);
         put(rt, &queue, &mut passes, 1);
         put(rt, &queue, &mut passes, 2);
-        lines.tell(rt, "ReadyQueue::gather", &mut Some(Queue { queue, passes }));
+        lines.try_call(rt, "ReadyQueue::gather", &mut Some(Queue { queue, passes }));
     }
 }
 
 /// The calls of the parts.
-pub(crate) fn tell_parts<R: Wait>(rt: &R, lines: &mut Lines) {
+pub(crate) fn try_parts<R: Wait>(rt: &R, lines: &mut Lines) {
     for new in NEW {
         let mut call = *new;
-        lines.tell(&(), call.0, &mut call);
+        lines.try_call(&(), call.0, &mut call);
     }
-    tell_posts(lines);
-    tell_delivery(lines);
-    tell_timers(lines);
-    tell_queue(rt, lines);
+    try_posts(lines);
+    try_delivery(lines);
+    try_timers(lines);
+    try_queue(rt, lines);
 }

@@ -1,5 +1,5 @@
 //! Scripts, tables, outcomes and histories.
-use crate::told::{Call, Lines, Shown};
+use crate::lines::{Call, Lines, Shown};
 use explore::{Script, Table, find_history, outcomes};
 use history::Event;
 use script_text::{read_script, read_table, write_history, write_table};
@@ -85,14 +85,14 @@ impl Call<()> for Search {
 
     fn show(&self, shown: &mut Shown) {
         for table in self.tables.as_slice() {
-            tell_table(self.alloc, &self.script, table, shown);
+            show_table(self.alloc, &self.script, table, shown);
         }
-        tell_history(self.alloc, &self.script, self.events.as_slice(), shown);
+        show_history(self.alloc, &self.script, self.events.as_slice(), shown);
     }
 }
 
 /// Tells the lines of a table.
-fn tell_table(alloc: Global, script: &Script, table: &Table, gave: &mut Shown) {
+fn show_table(alloc: Global, script: &Script, table: &Table, gave: &mut Shown) {
     gave.text(" /");
     let Ok(bytes) = write_table(alloc, script, table) else {
         return;
@@ -106,7 +106,7 @@ fn tell_table(alloc: Global, script: &Script, table: &Table, gave: &mut Shown) {
 }
 
 /// Tells how long the text of a history is.
-fn tell_history(alloc: Global, script: &Script, events: &[Event], gave: &mut Shown) {
+fn show_history(alloc: Global, script: &Script, events: &[Event], gave: &mut Shown) {
     match write_history(alloc, script, events) {
         Ok(text) if text.len() > 0 => gave.count(" bytes ", text.len() as u64),
         _ => {}
@@ -128,12 +128,12 @@ fn search_of(alloc: Global) -> Option<Search> {
 }
 
 /// The calls on a script and its table.
-pub(crate) fn tell_scripts(lines: &mut Lines) {
+pub(crate) fn try_scripts(lines: &mut Lines) {
     if let Some(mut search) = search_of(lines.alloc) {
         for (name, words, asked) in ASKED {
             search.asked = (words, *asked);
             search.tables.clear();
-            lines.tell(&(), name, &mut search);
+            lines.try_call(&(), name, &mut search);
         }
         drop(search);
     }

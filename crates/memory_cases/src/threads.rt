@@ -1,8 +1,8 @@
 //! Runtimes, from their start to their end.
 ghost use Rattle.runtime.specs.Clients.{AreClients};
 
-use crate::boards::{add, shape_of, tell_report};
-use crate::told::{AGAIN, Handed, Lines, Shown};
+use crate::boards::{add, shape_of, show_report};
+use crate::lines::{AGAIN, Handed, Lines, Shown};
 use board::Shape;
 use controls::{NoClock, Open};
 use prep::read;
@@ -26,7 +26,7 @@ impl<R: Threads + Wait> Handed<R> for Running {
     fn hand(self, rt: &R, alloc: Global, gave: &mut Shown) -> Option<Running> {
         match join_all(rt, alloc, self.runtime, self.clients) {
             Ok(report) => {
-                tell_report(&report, gave);
+                show_report(&report, gave);
                 None
             }
             Err(
@@ -74,7 +74,7 @@ fn submit(alloc: Global, running: &mut Running) {
 }
 
 /// A runtime is started, once more where it was refused memory or a thread.
-fn tell_start<R: Threads + Wait + Copy + Send + 'static>(
+fn try_start<R: Threads + Wait + Copy + Send + 'static>(
     rt: R,
     lines: &mut Lines,
     shape: &Shape,
@@ -94,13 +94,13 @@ fn tell_start<R: Threads + Wait + Copy + Send + 'static>(
 }
 
 /// A runtime is started, and ended with a request that has no reply.
-pub(crate) fn tell_threads<R: Threads + Wait + Copy + Send + 'static>(rt: &R, lines: &mut Lines) {
+pub(crate) fn try_threads<R: Threads + Wait + Copy + Send + 'static>(rt: &R, lines: &mut Lines) {
     if let Some(shape) = shape_of(lines.alloc, 2, 4, 2) {
-        let mut running = tell_start(*rt, lines, &shape);
+        let mut running = try_start(*rt, lines, &shape);
         if let Some(running) = &mut running {
             submit(lines.alloc, running);
         }
-        lines.tell(rt, "join_all", &mut running);
+        lines.try_call(rt, "join_all", &mut running);
         drop(running);
     }
 }

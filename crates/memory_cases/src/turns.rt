@@ -5,7 +5,7 @@ ghost use Rattle.ready.specs.Ready;
 ghost use Rattle.work.specs.Board.{IsOf};
 
 use crate::boards::{Batch, add, new_board, shape_of, submit};
-use crate::told::{AGAIN, Call, Handed, Lines, Shown};
+use crate::lines::{AGAIN, Call, Handed, Lines, Shown};
 use bell::{Bell, Ringer, Sleeper};
 use board::{Board, Phase, Poller, Shape, Submitter, Worker};
 use controls::{Clock, NoClock, Open};
@@ -182,7 +182,7 @@ impl Model for Stage {
 }
 
 /// Tells what was answered.
-fn tell_answers(outbox: &Outbox, gave: &mut Shown) {
+fn show_answers(outbox: &Outbox, gave: &mut Shown) {
     for place in 0..outbox.len() {
         if let Some(req) = outbox.get(place) {
             gave.count(" ", req.k);
@@ -267,7 +267,7 @@ impl Stage {
             queue: &self.queue,
         };
         let turn = poll_turn(route, &self.bell, &mut self.desk, clock, &mut outbox);
-        tell_answers(&outbox, gave);
+        show_answers(&outbox, gave);
         drop(outbox);
         gave.got(turn).is_some()
     }
@@ -292,7 +292,7 @@ impl Stage {
         };
         let (worker, _turn) = work_turn(route, &mut self.work, worker, &Open, &mut outbox);
         self.worker = Some(worker);
-        tell_answers(&outbox, gave);
+        show_answers(&outbox, gave);
         drop(outbox);
     }
 }
@@ -326,7 +326,7 @@ impl Clock for Once {
         None
     }
 
-    fn tell(&mut self, _now: u32, _phase: Option<Phase>) -> Option<u32> {
+    fn advance(&mut self, _now: u32, _phase: Option<Phase>) -> Option<u32> {
         self.to.take()
     }
 }
@@ -369,14 +369,14 @@ fn turns<R: Wait>(rt: &R, lines: &mut Lines, mut stage: Stage) -> Stage {
 }
 
 /// The desks, and turns.
-pub(crate) fn tell_turns<R: Wait>(rt: &R, lines: &mut Lines) {
+pub(crate) fn try_turns<R: Wait>(rt: &R, lines: &mut Lines) {
     if let Some(shape) = shape_of(lines.alloc, 1, CELLS, 1) {
         let mut passes = passes_of(lines.alloc, &shape);
-        lines.tell(&shape, "PollDesk::new", &mut passes);
+        lines.try_call(&shape, "PollDesk::new", &mut passes);
         drop(passes);
         let mut pass = pass_of(lines.alloc);
         if let Some(board) = board_of(lines.alloc, &shape) {
-            lines.tell(&board, "WorkDesk::new", &mut pass);
+            lines.try_call(&board, "WorkDesk::new", &mut pass);
             drop(board);
         }
         drop(pass);

@@ -2,9 +2,9 @@
 pub use Rattle.entry.specs.Entry.{Entry, drains, fails_op}
 pub use Rattle.entry.specs.declared.op.Op.{Op}
 pub use Rattle.entry.specs.declared.op.Op.TheVariants.{AsyncCancel, Close, Invalid, LinkTimeout, PollAdd, Read, Splice, Timeout, TimeoutRemove, Write}
-pub use Rattle.history.proofs.Catches.{answers_one, missed_in, one_answer, one_answers, tally_in, uncaught}
+pub use Rattle.history.proofs.Catches.{answers_one, missed_in, one_answer, one_answers, taken_count_in, uncaught}
 pub use Rattle.history.proofs.Requests.{and_left, and_right, bool_cases, not_true}
-pub use Rattle.history.specs.{AimsAt, AllTried, Answer, CancelAnswers, CancelBy, IsFirst, Matches, MayHit, NoneLeft, OpAnswers, asks_for, bad_end, is_all, is_pipe, later, now, read_from, splice_into, splice_of, write_to, IsBefore, IsClear, IsTarget, Open, Severed, gate_of, hosts, is_link_timeout, is_link_timeout_in, is_timeout, is_timer, joins, placed, placed_behind, placed_from, previous, severs, Cause, Hit, IsIdle, IsPending, IsReplied, Phase, Submission, adds_to, after_reap, armed, by_settle, clock_of, data_of, fired, has_missed, hit, nothing, phase, replied, reply, reply_in, runs, same, submission, submits, took, waits, was_shut, End, Flow, closes, content, contents, end_of, flow, flows, given_at, is_zero, no_end, offered, read_end, reads, size, untouched, write_end, writes, Catch, Held, Standing, bit, catch_in, held, held_words, none_yet, pipes_words, requests_words, rings_words, standing, standing_words, state_of, with_missed, with_took}
+pub use Rattle.history.specs.{AimsAt, AllTried, Answer, CancelAnswers, CancelBy, IsFirst, Matches, MayHit, NoneLeft, OpAnswers, asks_for, bad_end, is_all, is_pipe, later, now, read_from, splice_into, splice_of, write_to, IsBefore, IsClear, IsTarget, Open, Severed, gate_of, hosts, is_link_timeout, is_link_timeout_in, is_timeout, is_timer, joins, placed, placed_behind, placed_from, previous, severs, Cause, Hit, IsIdle, IsPending, IsReplied, Phase, Submitted, adds_to, after_reap, armed, by_settle, clock_of, data_of, fired, has_missed, hit, nothing, phase, replied, reply, reply_in, runs, same, submission, submits, took, waits, was_shut, End, Flow, closes, content, contents, end_of, flow, flows, given_at, is_zero, no_end, offered, read_end, reads, size, untouched, write_end, writes, Catch, Held, Standing, bit, catch_in, held, held_words, none_yet, pipes_words, requests_words, rings_words, standing, standing_words, state_of, with_missed, with_took}
 pub use Rattle.history.specs.Legal.{Fits, IsDue, Legal, MayCome, Setup, count_of, shut_for, ticks_of}
 pub use Rattle.history.specs.declared.event.Event.{Event}
 pub use Rattle.history.specs.declared.event.Event.TheVariants.{Arm, Begin, Count, Cut, Expire, Fire, FireMiss, Miss, Park, Reap, Reply, Settle, Sever, Shut, Submit, Take}

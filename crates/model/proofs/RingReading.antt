@@ -1,5 +1,5 @@
 -- Reading the requests of a ring.
-use Rattle.model.proofs.Common.{Bool, Entry, Invalid, List, None, Op, Option, Request, Some, Submission, and_parts, ap, arith, chain_done, common_steps, cond, false, get_or, handed_at, handed_in, handed_of, hosts, is_link_timeout, joins, length, not, pending_of, placed_behind, placed_from, placed_in, refl, reply_at, reply_in_of, severed_in, severs_at, severs_by, slice_get, slice_get_read, sub-one, subst, sym, true, with_op, ℕ, ◌&&◌, ◌-◌, ◌<◌, ◌==◌, ◌∙◌, ◌≡◌, ◌⊎◌}
+use Rattle.model.proofs.Common.{Bool, Entry, Invalid, List, None, Op, Option, Request, Some, Submitted, and_parts, ap, arith, chain_done, common_steps, cond, false, get_or, handed_at, handed_in, handed_of, hosts, is_link_timeout, joins, length, not, pending_of, placed_behind, placed_from, placed_in, refl, reply_at, reply_in_of, severed_in, severs_at, severs_by, slice_get, slice_get_read, sub-one, subst, sym, true, with_op, ℕ, ◌&&◌, ◌-◌, ◌<◌, ◌==◌, ◌∙◌, ◌≡◌, ◌⊎◌}
 use Rattle.entry.specs.Table.{fits, fits_op}
 
 pub kept : (xs : List Request) (k : ℕ) (x : Request) → k < length xs → x ≡ get_or xs k x → slice_get xs k ≡ Some x
@@ -25,7 +25,7 @@ pub placed_ops : (xs : List Request) (k : ℕ) (x : Request) (op : Op) → k < l
     → (op ≡ x.sqe.op) ⊎ (op ≡ Invalid)
 unfolding op_in
 placed_ops xs k x op lt is p =
-    let before : Option Submission = cond (k == 0) None (handed_in xs (k - 1)) in
+    let before : Option Submitted = cond (k == 0) None (handed_in xs (k - 1)) in
     let here : placed_from before (Some (handed_of x)) ≡ with_op (Some (handed_of x)) op =
     subst (λ o. placed_from before (handed_at o) ≡ with_op (handed_at o) op) (kept xs k x lt is) p in
     op_case (is_link_timeout x.sqe.op && not (hosts before)) x.sqe op (ap (op_in op) here)

@@ -7,7 +7,7 @@ use Rattle.history.specs.declared.event.Event.{Event}
 use Rattle.model.specs.declared.request.Stage.{Stage}
 use Rattle.model.specs.declared.request.Stage.TheVariants.{Waits, Runs, Armed, Replied, Reaped}
 use Rattle.model.specs.declared.request.Request.{Request}
-use Rattle.history.specs.{Phase, unborn, waits, runs, armed, replied, reaped, Submission, submission, phase, hit, fired, data_of, placed_from, Catch, none_yet, catch_in}
+use Rattle.history.specs.{Phase, unborn, waits, runs, armed, replied, reaped, Submitted, submission, phase, hit, fired, data_of, placed_from, Catch, none_yet, catch_in}
 
 abbrev pub is_pending : Stage → Bool
 is_pending (Replied res) = false
@@ -29,7 +29,7 @@ stage_of (reaped c res) = Some (Reaped res)
 
 -- what later events ask of a request
 pub record Seen : Type 0 where
-  pub handed : Option Submission
+  pub handed : Option Submitted
   pub stage : Option Stage
   pub found : Catch
   pub fired : Bool
@@ -39,10 +39,10 @@ pub record Seen : Type 0 where
 abbrev pub seen : List Event → Req → Seen
 seen h q = record { handed = submission h q; stage = stage_of (phase h q); found = catch_in (hit h q); fired = fired h q; taken = data_of h q }
 
-abbrev pub handed_of : Request → Submission
+abbrev pub handed_of : Request → Submitted
 handed_of x = record { entry = x.sqe; bytes = x.bytes; last = x.last }
 
-abbrev pub handed_at : Option Request → Option Submission
+abbrev pub handed_at : Option Request → Option Submitted
 handed_at None = None
 handed_at (Some x) = Some (handed_of x)
 
@@ -68,14 +68,14 @@ abbrev pub seen_of : Option Request → Seen
 seen_of o = record { handed = handed_at o; stage = stage_at o; found = found_in o; fired = fired_of o; taken = taken_in o }
 
 -- the requests of a ring, by number
-abbrev pub handed_in : List Request → ℕ → Option Submission
+abbrev pub handed_in : List Request → ℕ → Option Submitted
 handed_in xs k = handed_at (slice_get xs k)
 
 abbrev pub placed_in : List Request → ℕ → Option Entry
 placed_in xs k = placed_from (cond (k == 0) None (handed_in xs (k - 1))) (handed_in xs k)
 
 -- an entry that was placed with another operation
-abbrev pub with_op : Option Submission → Op → Option Entry
+abbrev pub with_op : Option Submitted → Op → Option Entry
 with_op None op = None
 with_op (Some s) op = Some (record s.entry { op = op })
 

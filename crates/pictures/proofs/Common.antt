@@ -1,5 +1,5 @@
 -- The words of other modules that the proofs of this crate use.
-pub use Rattle.pictures.specs.{participants, step_text, steps, event_data, events_after, explained_data, history_data, json_text, listed, reply_data, row_data, rows_data, table_data, tables_data, tallied_data, verdict_data, marks, marks_after, place_of, shown, workers_after, workers_in, column_of, head_cells, longest, row_cells, rows, rule_cells, width_of, widths, widths_from, explained_of, tallied_of, verdict_of, explained_lines, tally_lines, verdict_lines}
+pub use Rattle.pictures.specs.{participants, step_text, steps, event_data, events_after, explained_data, history_data, json_text, listed, reply_data, row_data, rows_data, table_data, tables_data, counted_data, verdict_data, marks, marks_after, place_of, shown, workers_after, workers_in, column_of, head_cells, longest, row_cells, rows, rule_cells, width_of, widths, widths_from, explained_of, counted_of, verdict_of, explained_lines, counts_lines, verdict_lines}
 pub use Rattle.script.specs.Rows.{rows_of}
 pub use Rattle.script_text.specs.TableText.{shown_lines, table_text}
 pub use Rattle.serde_json.specs.Data.{Data}

@@ -1,7 +1,7 @@
 -- Lists of JSON values, and that none of them has a float.
 use Rattle.std.specs.Global.{Vec}
 use Rattle.std.proofs.lemmas.List.{append-nil}
-use Rattle.pictures.proofs.Common.{Bool, Data, List, [], ap, ap₂, codes, drop, event_data, events_after, explained_data, false, has_float, history_data, inl, inr, items_have_float, items_of, length, listed, map, negsuc, pos, refl, reply_data, row_data, rows_data, rules, shown_lines, string_bytes, sym, table_data, tables_data, tallied_data, verdict_data, view, ℕ, ℤ, ◌++◌, ◌||◌, ◌∙◌, ◌∷◌, ◌≡◌, ◌≤◌, ◌⊎◌}
+use Rattle.pictures.proofs.Common.{Bool, Data, List, [], ap, ap₂, codes, drop, event_data, events_after, explained_data, false, has_float, history_data, inl, inr, items_have_float, items_of, length, listed, map, negsuc, pos, refl, reply_data, row_data, rows_data, rules, shown_lines, string_bytes, sym, table_data, tables_data, counted_data, verdict_data, view, ℕ, ℤ, ◌++◌, ◌||◌, ◌∙◌, ◌∷◌, ◌≡◌, ◌≤◌, ◌⊎◌}
 use Rattle.pictures.proofs.Turns.{ends_here}
 use Rattle.history.specs.declared.event.Event.{Event}
 use Rattle.history.specs.declared.event.Event.TheVariants.{Reply, Settle}
@@ -62,8 +62,8 @@ history_plain c es = events_plain c [] es
 pub explained_plain : (c : Script) (x : List (ℤ × List ℕ) × List Event) → has_float (explained_data c x) ≡ false
 explained_plain c x = ap₂ ◌||◌ (history_plain c x.1) (ap₂ ◌||◌ (table_plain c x.0) refl)
 
-pub tallied_plain : (c : Script) (x : List (ℤ × List ℕ) × ℕ) → has_float (tallied_data c x) ≡ false
-tallied_plain c x = ap₂ ◌||◌ (table_plain c x.0) refl
+pub counted_plain : (c : Script) (x : List (ℤ × List ℕ) × ℕ) → has_float (counted_data c x) ≡ false
+counted_plain c x = ap₂ ◌||◌ (table_plain c x.0) refl
 
 verdict_plain : (x : List ℕ × Bool) → has_float (verdict_data x) ≡ false
 verdict_plain x = refl
@@ -80,8 +80,8 @@ tables_plain c xs = plain_list (λ (lines : List (ℤ × List ℕ)). table_data 
 pub all_explained_plain : (c : Script) (xs : List (List (ℤ × List ℕ) × List Event)) → has_float (listed (map (explained_data c) xs)) ≡ false
 all_explained_plain c xs = plain_list (explained_data c) (explained_plain c) xs
 
-pub all_tallied_plain : (c : Script) (xs : List (List (ℤ × List ℕ) × ℕ)) → has_float (listed (map (tallied_data c) xs)) ≡ false
-all_tallied_plain c xs = plain_list (tallied_data c) (tallied_plain c) xs
+pub all_counted_plain : (c : Script) (xs : List (List (ℤ × List ℕ) × ℕ)) → has_float (listed (map (counted_data c) xs)) ≡ false
+all_counted_plain c xs = plain_list (counted_data c) (counted_plain c) xs
 
 pub all_verdicts_plain : (xs : List (List ℕ × Bool)) → has_float (listed (map verdict_data xs)) ≡ false
 all_verdicts_plain xs = plain_list verdict_data verdict_plain xs

@@ -1,4 +1,4 @@
 mod Common
 mod JsonValues
-mod Tallies
+mod Counts
 mod Turns

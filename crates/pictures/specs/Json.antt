@@ -95,8 +95,8 @@ abbrev pub explained_data : Script → List (ℤ × List ℕ) × List Event → 
 explained_data c x = object (member (codes "history") (history_data c x.1) (member (codes "table") (table_data c x.0) no_members))
 
 -- a table and how often it came
-abbrev pub tallied_data : Script → List (ℤ × List ℕ) × ℕ → Data
-tallied_data c x = object (member (codes "table") (table_data c x.0) (member (codes "times") (number (unsigned x.1)) no_members))
+abbrev pub counted_data : Script → List (ℤ × List ℕ) × ℕ → Data
+counted_data c x = object (member (codes "table") (table_data c x.0) (member (codes "times") (number (unsigned x.1)) no_members))
 
 -- the name of a file, and whether its tables are the script's
 abbrev pub verdict_data : List ℕ × Bool → Data

@@ -11,8 +11,8 @@ abbrev pub explained_of : Bor Table × Vec Event → List (ℤ × List ℕ) × L
 explained_of x = (rows_of x.0.now, x.1.items)
 
 -- tables with numbers
-abbrev pub tallied_of : Bor Table × ℕ → List (ℤ × List ℕ) × ℕ
-tallied_of x = (rows_of x.0.now, x.1)
+abbrev pub counted_of : Bor Table × ℕ → List (ℤ × List ℕ) × ℕ
+counted_of x = (rows_of x.0.now, x.1)
 
 -- names with verdicts
 abbrev pub verdict_of : Bor (List ℕ) × Bool → List ℕ × Bool

@@ -14,13 +14,13 @@ abbrev pub explained_text : Script → List (List (ℤ × List ℕ) × List Even
 explained_text c xs = explained_lines c xs ++ (codes "tables " ++ (decimal (length xs) ++ codes "\n"))
 
 -- a table and how often it came, each followed by an empty line
-abbrev pub tally_lines : Script → List (List (ℤ × List ℕ) × ℕ) → List ℕ
-tally_lines c [] = []
-tally_lines c (x ∷ xs) = (table_text c.entries.items x.0 ++ (codes "\ntimes " ++ (decimal x.1 ++ codes "\n\n"))) ++ tally_lines c xs
+abbrev pub counts_lines : Script → List (List (ℤ × List ℕ) × ℕ) → List ℕ
+counts_lines c [] = []
+counts_lines c (x ∷ xs) = (table_text c.entries.items x.0 ++ (codes "\ntimes " ++ (decimal x.1 ++ codes "\n\n"))) ++ counts_lines c xs
 
 -- and how many runs there were
-abbrev pub tally_text : Script → List (List (ℤ × List ℕ) × ℕ) → ℕ → List ℕ
-tally_text c xs runs = tally_lines c xs ++ (codes "runs " ++ (decimal runs ++ codes "\n"))
+abbrev pub counts_text : Script → List (List (ℤ × List ℕ) × ℕ) → ℕ → List ℕ
+counts_text c xs runs = counts_lines c xs ++ (codes "runs " ++ (decimal runs ++ codes "\n"))
 
 abbrev pub verdict_word : Bool → List ℕ
 verdict_word true = codes "yes"

@@ -4,7 +4,7 @@ ghost use Rattle.script.specs.Rows.{rows_of};
 ghost use Rattle.serde_json.specs.Data.{null};
 ghost use Rattle.serde_json.specs.View.{view};
 ghost use Rattle.serde_json.specs.Written.{has_float};
-ghost use Rattle.pictures.specs.{explained_data, history_data, json_text, listed, table_data, tables_data, tallied_data, verdict_data, explained_of, tallied_of, verdict_of};
+ghost use Rattle.pictures.specs.{explained_data, history_data, json_text, listed, table_data, tables_data, counted_data, verdict_data, explained_of, counted_of, verdict_of};
 
 use crate::values::{history_value, table_value};
 use history::Event;
@@ -70,24 +70,24 @@ pub fn write_explained(
 }
 
 /// A table and how often it came.
-fn tallied_value(alloc: Global, script: &Script, one: &(&Table, usize)) -> Result<Value, AllocError>
-    ensures { IfOk result (λ value. view value ≡ tallied_data script.now (tallied_of one.now)) }
+fn counted_value(alloc: Global, script: &Script, one: &(&Table, usize)) -> Result<Value, AllocError>
+    ensures { IfOk result (λ value. view value ≡ counted_data script.now (counted_of one.now)) }
 {
     let table = table_value(alloc, script, one.0)?;
     json!(in alloc; {"table": table, "times": one.1})
 }
 
 /// Tables and how often each came, in order.
-pub fn write_tally(
+pub fn write_counts(
     alloc: Global,
     script: &Script,
-    tally: &[(&Table, usize)],
+    counts: &[(&Table, usize)],
 ) -> Result<Vec<u8>, AllocError>
-    ensures { IfOk result (λ text. text.items ≡ json_text (listed (map (tallied_data script.now) (map tallied_of tally.now)))) }
+    ensures { IfOk result (λ text. text.items ≡ json_text (listed (map (counted_data script.now) (map counted_of counts.now)))) }
 {
     let mut list = Vec::new(alloc);
-    for one in tally {
-        list.push(tallied_value(alloc, script, one)?)?;
+    for one in counts {
+        list.push(counted_value(alloc, script, one)?)?;
     }
     text_of(alloc, &Value::Array(list))
 }

@@ -10,10 +10,10 @@ mod values;
 mod workers;
 
 pub use json::{
-    write_explained, write_history, write_none, write_table, write_tables, write_tally,
+    write_counts, write_explained, write_history, write_none, write_table, write_tables,
     write_verdicts,
 };
 pub use lanes::write_lanes;
 pub use marks::{Lane, Mark, marks_of};
 pub use mermaid::write_mermaid;
-pub use texts::{explained_text, tally_text, verdicts_text};
+pub use texts::{counts_text, explained_text, verdicts_text};

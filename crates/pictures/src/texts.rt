@@ -2,7 +2,7 @@
 ghost use Rattle.std.specs.Prelude.{◌≡◌, ◌++◌, codes, decimal, map, IfOk, OnOk};
 ghost use Rattle.script.specs.Rows.{rows_of};
 ghost use Rattle.script_text.specs.{history_text, table_text};
-ghost use Rattle.pictures.specs.{explained_of, tallied_of, verdict_of, explained_lines, explained_text, tally_lines, tally_text, verdict_lines, verdict_word};
+ghost use Rattle.pictures.specs.{explained_of, counted_of, verdict_of, explained_lines, explained_text, counts_lines, counts_text, verdict_lines, verdict_word};
 
 use history::Event;
 use script::{Script, Table};
@@ -54,16 +54,16 @@ fn push_times(alloc: Global, out: &mut Vec<u8>, times: usize) -> Result<(), Allo
 }
 
 /// Each table and how often it came, each followed by an empty line, and how many runs there were.
-pub fn tally_text(
+pub fn counts_text(
     alloc: Global,
     script: &Script,
-    tally: &[(&Table, usize)],
+    counts: &[(&Table, usize)],
     runs: usize,
 ) -> Result<Vec<u8>, Memory>
-    ensures { IfOk result (λ text. text.items ≡ tally_text script.now (map tallied_of tally.now) runs) }
+    ensures { IfOk result (λ text. text.items ≡ counts_text script.now (map counted_of counts.now) runs) }
 {
     let mut out = Vec::new(alloc);
-    for one in tally {
+    for one in counts {
         out.extend_from_slice(&write_table(alloc, script, one.0)?)?;
         push_times(alloc, &mut out, one.1)?;
     }

@@ -5,7 +5,7 @@ use Rattle.crossbeam_queue.specs.Passes.{Pass, view}
 use Rattle.history.specs.declared.req.Req.{Req}
 use Rattle.history.specs.History.{same}
 use Rattle.ready.specs.declared.span.Span.{Span}
-use Rattle.ready.specs.declared.tally.Tally.{Tally}
+use Rattle.ready.specs.declared.account.Account.{Account}
 use Rattle.ready.specs.Rule.{all_shares}
 use Rattle.ready.specs.Spans.{numbers_in, most}
 
@@ -65,7 +65,7 @@ pub record IsNew (places passes : ℕ) (q : Facts) (ps : List Moves) : Type 0 wh
   pub all : AreAll ps
 
 abbrev pub Seat : Type 0
-Seat = Pass Span Tally
+Seat = Pass Span Account
 
 -- the requests of these spans, in order
 abbrev pub numbers_of : List Span → List Req

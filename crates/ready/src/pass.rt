@@ -2,8 +2,8 @@
 ghost use Rattle.std.specs.Prelude.{◌↔◌, IsTrue};
 ghost use Rattle.ready.specs.Ready.{AreAll};
 
+use crate::account::Account;
 use crate::span::Span;
-use crate::tally::Tally;
 use crossbeam_queue::Pass;
 use std::marker::Model;
 
@@ -16,7 +16,7 @@ pub(crate) const ALL_SHARES: u32 = u32::MAX;
 /// Its shares are kept at run time too, for `gather` to add up.
 #[derive(Drop)]
 pub struct ReadyPass {
-    pub(crate) seat: Pass<Span, Tally>,
+    pub(crate) seat: Pass<Span, Account>,
     pub(crate) rest: Option<Span>,
     pub(crate) share: u32,
 }

@@ -6,22 +6,22 @@ ghost use Rattle.ready.specs.declared.span.Span.{Span};
 ghost use Rattle.ready.specs.{all_shares, most, IsOf, IsNew, AreAll, putting, putting_all, taking, all_put, all_taken, times, numbers_of, room_of, HasDrawn, IsRoom, listed};
 ghost use Rattle.ready.specs.declared.error.GatherError.TheVariants.{Missing};
 
+use crate::account::Account;
 use crate::error::{GatherError, Memory, Ungathered};
 use crate::law::Law;
 use crate::pass::{ALL_SHARES, ReadyPass, are_all};
 use crate::plays::{CutPass, Put, Take, TakeLast};
 use crate::room::GatherRoom;
 use crate::span::Span;
-use crate::tally::Tally;
 use crossbeam_queue::{Pass, RuledArrayQueue};
 use history::Req;
 use std::alloc::Global;
 use std::marker::Model;
 use std::sync::Wait;
 
-type Line = RuledArrayQueue<Span, Tally, Law>;
+type Line = RuledArrayQueue<Span, Account, Law>;
 
-type Seat = Pass<Span, Tally>;
+type Seat = Pass<Span, Account>;
 
 /// Requests that may begin, in so many places. A place has one request, or a span of requests. A pass belongs to the queue that
 /// made it.

@@ -6,8 +6,8 @@ ghost use Rattle.ring_c.specs.declared.code.Code.{Code};
 
 use crate::code::Code;
 use crate::handle::Handle;
-use crate::homes::{pass_of, poller_of, take_back};
 use crate::inside::finish_in;
+use crate::passes::{pass_of, poller_of, take_back};
 use crate::reports::{line_bytes_in, line_in};
 use crate::results::{Counted, Line};
 use std::alloc::Global;

@@ -38,8 +38,8 @@ abbrev pub without_tail : ClientFacts → ClientFacts
 without_tail c = record c { tail = 0; publishes = 0 }
 
 -- the tail n was published, once, where it is greater than the one before; else none was
-abbrev pub HasTold : ℕ → ClientFacts → ClientFacts → Type 0
-HasTold n old new = (new.tail ≡ max old.tail n) × (new.publishes ≡ cond (nat_lt old.tail n) (suc old.publishes) old.publishes)
+abbrev pub HasPublished : ℕ → ClientFacts → ClientFacts → Type 0
+HasPublished n old new = (new.tail ≡ max old.tail n) × (new.publishes ≡ cond (nat_lt old.tail n) (suc old.publishes) old.publishes)
 
 -- a take of a client, by its posts: those that it found in its completion ring came after those that it held, and it looked there only where it held none. The first of all went out, and the others stay, in order. A completion is that of the first; where there is none there was no post, or the first one's request could not be reaped
 pub record HasTaken (old new : ClientFacts) (result : Option Completion) : Type 0 where

@@ -8,7 +8,7 @@ ghost use Rattle.steps.specs.declared.view.Role.{Role};
 ghost use Rattle.work.specs.{IsOf, seen_of, Took};
 ghost use Rattle.bell.specs.BellPasses.{IsRingerOf};
 ghost use Rattle.board.specs.{steps_in, submits_of, Goes, Finds, next_of, IsCompletion, HasOnce, nth, LinkedAreReaped, RefusesBatch, widest};
-ghost use Rattle.runtime.specs.Clients.{HasAwaited, HasTaken, HasTold, without_tail};
+ghost use Rattle.runtime.specs.Clients.{HasAwaited, HasTaken, HasPublished, without_tail};
 
 use crate::held::Held;
 use crate::releasing::END;
@@ -103,8 +103,8 @@ impl Client {
     ) -> Result<Req, (SubmitError, Vec<(Sqe, Vec<u8>)>)>
         ensures same { (self.new.board ≡ self.old.board) × (self.new.ring ≡ self.old.ring) × (self.new.posts ≡ self.old.posts) }
         ensures submitted { IfOk result (λ r. (r ≡ next_of self.old.submitter self.old.ring) × Goes self.old.board self.old.submitter (submits_of self.old.ring r.k batch.items) self.new.submitter) }
-        ensures told { IfOk result (λ r. HasTold (submits (seen_of self.new.submitter) self.old.ring) self.old self.new) }
-        ensures untold { IfErr result (λ e. (self.new.tail ≡ self.old.tail) × (self.new.publishes ≡ self.old.publishes)) }
+        ensures published { IfOk result (λ r. HasPublished (submits (seen_of self.new.submitter) self.old.ring) self.old self.new) }
+        ensures unpublished { IfErr result (λ e. (self.new.tail ≡ self.old.tail) × (self.new.publishes ≡ self.old.publishes)) }
         ensures free { IfOk result (λ r. (i : ℕ) → i < length batch.items → IsFree self.old.board.layout.cells (seen_of self.new.submitter) (nth r.ring (r.k + i))) }
         ensures steps { IfOk result (λ r. (n : ℕ) × (n ≤ cells_in self.old.board.layout.cells r.ring + 1) × (LinkedAreReaped (seen_of self.old.submitter) r.ring → n ≡ 0) × Took self.old.submitter.view self.new.submitter.view (n + steps_in batch.items)) }
         ensures refused { IfErr result (λ e. Goes self.old.board self.old.submitter [] self.new.submitter × (e.1 ≡ batch)) }
@@ -112,7 +112,7 @@ impl Client {
     {
         match self.shared.board.submit_batch(&mut self.submitter, batch) {
             Ok(req) => {
-                self.tell();
+                self.publish_tail();
                 Ok(req)
             }
             Err(refused) => Err(refused),
@@ -130,7 +130,7 @@ impl Client {
 
     /// `Runtime::rest` of its runtime.
     pub fn rest(&self) -> Option<u64> {
-        self.shared.tally.evened()
+        self.shared.counters.evened()
     }
 
     /// Takes the oldest completion of its ring, if there is one (io_uring_peek_cqe(3)).
@@ -192,8 +192,8 @@ impl Client {
     ) -> Result<Req, (SubmitError, Vec<(Sqe, Vec<u8>)>)>
         ensures same { (self.new.board ≡ self.old.board) × (self.new.ring ≡ self.old.ring) }
         ensures submitted { IfOk result (λ r. (r ≡ next_of self.old.submitter self.old.ring) × Goes self.old.board self.old.submitter (submits_of self.old.ring r.k batch.items) self.new.submitter) }
-        ensures told { IfOk result (λ r. HasTold (submits (seen_of self.new.submitter) self.old.ring) self.old self.new) }
-        ensures untold { IfErr result (λ e. (self.new.tail ≡ self.old.tail) × (self.new.publishes ≡ self.old.publishes)) }
+        ensures published { IfOk result (λ r. HasPublished (submits (seen_of self.new.submitter) self.old.ring) self.old self.new) }
+        ensures unpublished { IfErr result (λ e. (self.new.tail ≡ self.old.tail) × (self.new.publishes ≡ self.old.publishes)) }
         ensures found { IfOk result (λ r. (found : List Req) × (self.new.posts ≡ self.old.posts ++ found)) }
         ensures waited { IfOk result (λ r. min count (widest self.old.board.layout.cells) ≤ length self.new.posts) }
         ensures free { IfOk result (λ r. (i : ℕ) → i < length batch.items → IsFree self.old.board.layout.cells (seen_of self.new.submitter) (nth r.ring (r.k + i))) }
@@ -245,9 +245,9 @@ impl Client {
     }
 
     /// Tells the poller how many requests were submitted, unless it was told a greater tail.
-    fn tell(&mut self)
+    fn publish_tail(&mut self)
         ensures same { (self.new.board ≡ self.old.board) × (self.new.ring ≡ self.old.ring) × (self.new.submitter ≡ self.old.submitter) × (self.new.posts ≡ self.old.posts) }
-        ensures told { HasTold (submits (seen_of self.old.submitter) self.old.ring) self.old self.new }
+        ensures published { HasPublished (submits (seen_of self.old.submitter) self.old.ring) self.old self.new }
     {
         let tail = self.submitter.next_request().k;
         if self.tail < tail {
@@ -266,9 +266,9 @@ impl Client {
     }
 
     /// Tells the poller to end, where this is the client of ring 0.
-    pub(crate) fn tell_end(&mut self)
+    pub(crate) fn publish_end(&mut self)
         ensures same { without_tail self.new ≡ without_tail self.old }
-        ensures told { self.old.ring ≡ 0 → 9223372036854775808 ≤ self.new.tail }
+        ensures published { self.old.ring ≡ 0 → 9223372036854775808 ≤ self.new.tail }
     {
         if self.held.ring() == 0 && self.tail < END {
             self.publish(self.tail + END);

@@ -10,7 +10,7 @@ ghost use Rattle.runtime.specs.declared.error.JoinError.TheVariants.{Missing};
 use crate::client::Client;
 use crate::error::JoinError;
 use crate::shared::Shared;
-use crate::started::{Ends, Runtime, Stopped, tell_end};
+use crate::started::{Ends, Runtime, Stopped, publish_end};
 use board::{Board, Report, ReportRoom, Submitter};
 use controls::Clock;
 use std::alloc::Global;
@@ -50,7 +50,7 @@ impl<C: Clock + Drop> Unjoined<C> {
             runtime,
             mut clients,
         } = self;
-        tell_end(&mut clients);
+        publish_end(&mut clients);
         drop(runtime.stop(rt));
         error
     }
@@ -159,7 +159,7 @@ fn halt<R: Threads, C: Clock>(
     if at_rest {
         runtime.let_rest();
     }
-    tell_end(&mut clients);
+    publish_end(&mut clients);
     let stopped = runtime.stop(rt);
     if !stopped.is_shared_by(clients.len()) {
         let runtime = stopped.resumed();

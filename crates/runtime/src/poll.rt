@@ -201,7 +201,7 @@ fn ask_clock<C: Clock>(board: &Board, hands: &mut Hands, clock: &mut C)
 {
     let now = hands.poller.clock();
     let phase = phase_of(board, &mut hands.poller, clock.ask());
-    let Some(to) = clock.tell(now, phase) else {
+    let Some(to) = clock.advance(now, phase) else {
         return;
     };
     let Ok(()) = board.tick(&mut hands.poller, to) else {

@@ -8,7 +8,7 @@ ghost use Rattle.work.specs.Board.{IsOf};
 ghost use Rattle.runtime.specs.WorkTurns.{Desk, FoundNone, IsWorkTurn, PutsBack, Shifts, Tried, ended_in, most_kept, past_in};
 
 use crate::error::Memory;
-use crate::shared::{Shared, Tally};
+use crate::shared::{Counters, Shared};
 use crate::shelf::Shelf;
 use crate::sleeping::Caller;
 use crate::turn::{Route, Turn};
@@ -114,11 +114,11 @@ impl WorkDesk {
     }
 
     /// Counts what its turns came to. What they answered was posted.
-    pub(crate) fn tell(&mut self, tally: &Tally)
+    pub(crate) fn report(&mut self, counters: &Counters)
         ensures { self.new ≡ self.old }
     {
-        tally.give(self.woken);
-        tally.finish(self.done);
+        counters.give(self.woken);
+        counters.finish(self.done);
         self.woken = 0;
         self.done = 0;
     }
@@ -183,7 +183,7 @@ impl WorkDesk {
         ensures { self.new ≡ self.old }
     {
         match &self.others {
-            Some(others) => others.shared.tally.give(count),
+            Some(others) => others.shared.counters.give(count),
             None => self.woken = self.woken.wrapping_add(count),
         }
     }

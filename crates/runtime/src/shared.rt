@@ -28,7 +28,7 @@ pub(crate) struct Shared {
     pub posts: PostLocks,
     pub is_over: AtomicBool,
     pub is_resting: AtomicBool,
-    pub tally: CachePadded<Tally>,
+    pub counters: CachePadded<Counters>,
 }
 
 impl Shared {
@@ -43,7 +43,7 @@ impl Shared {
             posts,
             is_over: AtomicBool::new(false),
             is_resting: AtomicBool::new(false),
-            tally: CachePadded::new(Tally::new()),
+            counters: CachePadded::new(Counters::new()),
         }
     }
 }
@@ -113,16 +113,16 @@ impl<R: Copy, G: Drop> Stage<R, G> {
 /// is posted before it is counted. The poller counts its numbers in the turn in which it hands them over, and how often a turn began or ended:
 /// where that is odd it is in a turn.
 #[derive(Drop)]
-pub(crate) struct Tally {
+pub(crate) struct Counters {
     given: AtomicU64,
     done: AtomicU64,
     turns: AtomicU64,
 }
 
-impl Tally {
+impl Counters {
     /// None yet.
-    pub fn new() -> Tally {
-        Tally {
+    pub fn new() -> Counters {
+        Counters {
             given: AtomicU64::new(0),
             done: AtomicU64::new(0),
             turns: AtomicU64::new(0),

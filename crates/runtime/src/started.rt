@@ -276,10 +276,10 @@ pub(crate) struct Ends<C: Clock> {
 }
 
 /// Tells the poller to end, by the client of ring 0.
-pub(crate) fn tell_end(clients: &mut Vec<Client>)
+pub(crate) fn publish_end(clients: &mut Vec<Client>)
     ensures { map without_tail clients.new.items ≡ map without_tail clients.old.items }
 {
     for client in clients.iter_mut() {
-        client.tell_end();
+        client.publish_end();
     }
 }

@@ -18,7 +18,7 @@ use crate::poll::PollDesk;
 use crate::promised::{Polls, WorkThread};
 use crate::rooms::{Rooms, rooms_of};
 use crate::shared::{Shared, Stage};
-use crate::started::{Runtime, tell_end};
+use crate::started::{Runtime, publish_end};
 use crate::threads::{PollSide, WorkSide, poll};
 use board::Shape;
 use controls::{Clock, Turnstile};
@@ -161,7 +161,7 @@ fn abandon<R: Threads, C: Clock + Drop>(
     poller: PromisedHandle<PollSide<C>, Polls>,
     threads: Vec<WorkThread>,
 ) {
-    tell_end(clients);
+    publish_end(clients);
     drop(poller.join(rt));
     for thread in threads {
         let WorkThread { handle } = thread;

@@ -178,7 +178,7 @@ impl WorkSide {
             }
         }
         post_all(context, &mut outbox);
-        desk.tell(&context.shared.tally);
+        desk.report(&context.shared.counters);
         let own = WorkSide {
             desk,
             worker,
@@ -239,12 +239,12 @@ pub(crate) fn poll<R: Wait, G: Turnstile, C: Clock>(
     let (mut still, mut called, mut given) = (0u32, 0u32, 0u32);
     let mut served = Turn::Moved;
     for _ in rt.forever() {
-        shared.tally.turn();
+        shared.counters.turn();
         let turn = poll_round(context, &mut side).unwrap_or(Turn::Moved);
         let handed = side.desk.handed();
-        shared.tally.give(u64::from(handed.wrapping_sub(given)));
+        shared.counters.give(u64::from(handed.wrapping_sub(given)));
         given = handed;
-        shared.tally.turn();
+        shared.counters.turn();
         let puts = side.desk.puts();
         call_for(&mut side.caller, puts.wrapping_sub(called));
         let is_called = served == Turn::Moved || puts != called;
@@ -299,7 +299,7 @@ pub(crate) fn work<R: Wait, G: Turnstile>(
             continue;
         }
         post_all(context, &mut outbox);
-        desk.tell(&shared.tally);
+        desk.report(&shared.counters);
         let is_done = turn == Turn::Idle || AWAKE <= silent;
         if shared.is_over.load(Ordering::SeqCst)
             && (is_done || !shared.is_resting.load(Ordering::SeqCst))

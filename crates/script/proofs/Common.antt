@@ -1,10 +1,10 @@
 -- The words of other modules that the proofs of this crate use.
 pub use Rattle.history.proofs.Requests.{bool_cases, same_true}
-pub use Rattle.history.specs.History.{Phase, Submission, adds_to, armed, becomes, clock_of, concerns, data_of, fired, phase, reaped, replied, reply, reply_in, runs, same, submission, submits, unborn, waits, was_shut}
+pub use Rattle.history.specs.History.{Phase, Submitted, adds_to, armed, becomes, clock_of, concerns, data_of, fired, phase, reaped, replied, reply, reply_in, runs, same, submission, submits, unborn, waits, was_shut}
 pub use Rattle.history.specs.Legal.{Legal, MayCome, Setup}
 pub use Rattle.history.specs.declared.event.Event.{Event}
 pub use Rattle.history.specs.declared.req.Req.{Req}
-pub use Rattle.script.specs.{AreHomes, home, home_at, home_from, are_lines, each_once, is_clock_line, is_ring_line, keeps_acts, keeps_clock, keeps_limits, keeps_parts, places_in, places_of, rises, passes, step_at, IsAtEnd, Keeps, MayFollow, MayStep, holds_for, is_armed, is_done, is_replied}
+pub use Rattle.script.specs.{AreRequests, request_of, request_or, request_from, are_lines, each_once, is_clock_line, is_ring_line, keeps_acts, keeps_clock, keeps_limits, keeps_parts, places_in, places_of, rises, passes, step_at, IsAtEnd, Keeps, MayFollow, MayStep, holds_for, is_armed, is_done, is_replied}
 pub use Rattle.script.specs.declared.act.Act.{Act}
 pub use Rattle.script.specs.declared.act.Act.TheVariants.{Armed, Submit, Tick, Wait}
 pub use Rattle.script.specs.declared.named.Named.{Named}

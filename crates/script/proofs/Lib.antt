@@ -4,6 +4,6 @@ pub mod Items
 pub mod CountedLines
 pub mod LinesStay
 pub mod CarriedLines
-pub mod HomesRead
-pub mod HomeEntries
+pub mod RequestsRead
+pub mod RequestEntries
 pub mod RowData

@@ -10,7 +10,7 @@ use Rattle.history.specs.Answers.{OpAnswers, Answers}
 use Rattle.history.proofs.Growth.{MayChange, may_change, changed, unchanged}
 use Rattle.history.proofs.PipeAnswers.{answer_bare, read_long}
 use Rattle.script.specs.Rows.{data_count}
-use Rattle.script.proofs.Common.{Bool, Event, Legal, List, None, Option, Phase, Req, Setup, Some, Submission, [], ap, armed, becomes, bool_cases, concerns, cond, data_of, false, fired, length, min, nat_lt, negsuc, not, phase, pos, refl, replied, reply, reply_in, runs, same_true, submission, subst, sym, take, true, true≢false, waits, ℕ, ℤ, ⊎_elim, ◌&&◌, ◌==◌, ◌∙◌, ◌∷◌, ◌≡◌}
+use Rattle.script.proofs.Common.{Bool, Event, Legal, List, None, Option, Phase, Req, Setup, Some, Submitted, [], ap, armed, becomes, bool_cases, concerns, cond, data_of, false, fired, length, min, nat_lt, negsuc, not, phase, pos, refl, replied, reply, reply_in, runs, same_true, submission, subst, sym, take, true, true≢false, waits, ℕ, ℤ, ⊎_elim, ◌&&◌, ◌==◌, ◌∙◌, ◌∷◌, ◌≡◌}
 
 -- ---- what answers come with
 
@@ -37,17 +37,17 @@ behind_count true true e res z = z refl
 behind_count true false e res z = refl
 behind_count false b e res z = refl
 
-placed_count : (before o : Option Submission) (s : Submission) (e : Entry) (res : ℤ) → o ≡ Some s → placed_from before o ≡ Some e → data_count e.op res ≡ data_count s.entry.op res
+placed_count : (before o : Option Submitted) (s : Submitted) (e : Entry) (res : ℤ) → o ≡ Some s → placed_from before o ≡ Some e → data_count e.op res ≡ data_count s.entry.op res
 placed_count before None s e res is at = absurd (let z = is in cc)
 placed_count before (Some t) s e res is at =
     let one : t ≡ s = cc in
     let two : placed_behind before t.entry ≡ e = cc in
-    ap (λ (x : Entry). data_count x.op res) (sym two) ∙ (behind_count (is_link_timeout t.entry.op) (not (hosts before)) t.entry res (linked_none t.entry.op res) ∙ ap (λ (x : Submission). data_count x.entry.op res) one)
+    ap (λ (x : Entry). data_count x.op res) (sym two) ∙ (behind_count (is_link_timeout t.entry.op) (not (hosts before)) t.entry res (linked_none t.entry.op res) ∙ ap (λ (x : Submitted). data_count x.entry.op res) one)
 
 -- ---- a request's data, event by event
 
 abbrev IsLong : List Event → Req → Type 0
-IsLong h r = (res : ℤ) (y : Submission) → reply h r ≡ Some res → submission h r ≡ Some y → length (data_of h r) ≡ data_count y.entry.op res
+IsLong h r = (res : ℤ) (y : Submitted) → reply h r ≡ Some res → submission h r ≡ Some y → length (data_of h r) ≡ data_count y.entry.op res
 
 none_some : {X : Type 0} → (x : X) → None ≡ Some x → ⊥
 none_some x e = cc

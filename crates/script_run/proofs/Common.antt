@@ -12,10 +12,10 @@ pub use Rattle.script.specs.{HasCarried, HasTimed, KeepsRing, steps_in, IsTableO
 pub use Rattle.script.specs.declared.act.Act.{Act}
 pub use Rattle.script.specs.declared.act.Act.TheVariants.{Submit}
 pub use Rattle.script.specs.declared.script.Script.{Script}
-pub use Rattle.script_run.specs.{AreClockLines, IsAlong, IsClockLine, IsTimed, asked_at, asked_of, has_reply, is_ready, line_at, EndsAs, IsAtLine, IsOfPlace, IsUndone, WasTried, AreEntries, AreNew, AreTaken, Carries, HandAt, HandedIn, IsCarried, IsEntryAt, IsNewHand, IsThrough, Stayed, Went, client_of, seen_by, taken_by, AreInOrder, AreStarting, IsPlayed, IsStartedFor, AreRows, HasRun, IsFound, IsRow, IsRowOf, HasLabel, IsStuck, IsStuckClock, IsStuckOn, IsStuckRing, WasUndone, AllCarriedOut, CarriedOut, IfStuck, IsFor, IsInVain, IsLowest, IsStuckLine, RanOut, TriedInVain}
+pub use Rattle.script_run.specs.{AreClockLines, IsAlong, IsClockLine, IsTimed, asked_at, asked_of, has_reply, is_ready, line_at, EndsAs, IsAtLine, IsOfPlace, IsUndone, WasTried, AreEntries, AreNew, AreTaken, Carries, ActorAt, SubmittedBatch, IsCarried, IsEntryAt, IsNewActor, IsThrough, Stayed, Went, client_of, seen_by, taken_by, AreInOrder, AreStarting, IsPlayed, IsStartedFor, AreRows, HasRun, IsFound, IsRow, IsRowOf, HasLabel, IsStuck, IsStuckClock, IsStuckOn, IsStuckRing, WasUndone, AllCarriedOut, CarriedOut, IfStuck, IsFor, IsInVain, IsLowest, IsStuckLine, RanOut, TriedInVain}
 pub use Rattle.script_run.specs.declared.clock.ClockLine.{ClockLine}
 pub use Rattle.script_run.specs.declared.clock.ClockLine.TheVariants.{Armed, Tick, Wait}
-pub use Rattle.script_run.specs.declared.hand.Hand.{Hand}
+pub use Rattle.script_run.specs.declared.actor.Actor.{Actor}
 pub use Rattle.script_run.specs.declared.lines.Halt.TheVariants.{Stuck}
 pub use Rattle.std.proofs.Common.{All, Bool, IfSome, List, None, Option, Some, [], add-one, ap, arith, cond, drop, false, get_or, inl, inr, length, length-append, map, max, min, nat_le, nat_lt, refl, reverse, rules, slice_index_or, subst, suc, sym, take, true, true≢false, vec_capacity, zero, ℕ, ℤ, ⊎_elim, ◌&&◌, ◌++◌, ◌+◌, ◌<◌, ◌==◌, ◌^◌, ◌||◌, ◌∙◌, ◌∷◌, ◌≡◌, ◌≤◌, ◌⊎◌}
 pub use Rattle.std.proofs.Math.Seq.{drop-cons, get_or-append_seam, take-length, take-suc}

@@ -2,7 +2,7 @@ mod Common
 mod StuckRuns
 pub mod ClientCalls
 pub mod ClockSteps
-pub mod HandLists
-pub mod HandSteps
+pub mod ActorLists
+pub mod ActorSteps
 pub mod RunSteps
 pub mod WholeTables

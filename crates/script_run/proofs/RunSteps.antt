@@ -1,29 +1,29 @@
--- The hands of a run, from its start to the end of all lines.
+-- The actors of a run, from its start to the end of all lines.
 use Rattle.steps.specs.Cells
 use Rattle.board.specs.declared.shape.RingShape.{RingShape}
 use Rattle.board.specs.declared.shape.Shape.{Shape}
 use Rattle.board.specs.ShapeLimits.{counts}
 use Rattle.runtime.specs.Rests.{CameToRest}
-use Rattle.script_run.proofs.Common.{All, AllCarriedOut, AreClients, AreClockLines, AreInOrder, AreNew, AreNewClients, AreStarting, AreTaken, Bool, ClientFacts, ClockLine, Completion, Err, Facts, Hand, HasCarried, IfOk, IsAlong, IsAtLine, IsCarried, IsNewClient, IsNewHand, IsPlayed, IsReport, IsStarted, Line, List, None, Ok, Pass, Poller, Result, Script, Submitter, [], ap, arith, client_of, drop, events_of, get_or, get_or-map, length, length-map, map, refl, seen_of, setup_of, submitter_of, subst, suc, sym, taken_by, zero, ℕ, ◌++◌, ◌+◌, ◌<◌, ◌∙◌, ◌∷◌, ◌≡◌, ◌≤◌}
+use Rattle.script_run.proofs.Common.{All, AllCarriedOut, AreClients, AreClockLines, AreInOrder, AreNew, AreNewClients, AreStarting, AreTaken, Bool, ClientFacts, ClockLine, Completion, Err, Facts, Actor, HasCarried, IfOk, IsAlong, IsAtLine, IsCarried, IsNewClient, IsNewActor, IsPlayed, IsReport, IsStarted, Line, List, None, Ok, Pass, Poller, Result, Script, Submitter, [], ap, arith, client_of, drop, events_of, get_or, get_or-map, length, length-map, map, refl, seen_of, setup_of, submitter_of, subst, suc, sym, taken_by, zero, ℕ, ◌++◌, ◌+◌, ◌<◌, ◌∙◌, ◌∷◌, ◌≡◌, ◌≤◌}
 use Rattle.script_run.proofs.ClockSteps.{ends}
 
 -- ---- the end of all lines
 
-pub in_order : (c : Script) (turns : ℕ) (b : Facts) (xs ys : List Hand) → AreStarting c b xs → AllCarriedOut c turns xs ys → AreInOrder b ys
+pub in_order : (c : Script) (turns : ℕ) (b : Facts) (xs ys : List Actor) → AreStarting c b xs → AllCarriedOut c turns xs ys → AreInOrder b ys
 in_order c turns b xs ys s out = record {
   count = out.0 ∙ s.order.count;
   board = λ k d lt. (let l = out.0 in (out.1 k d d (omega arith)).board ∙ s.order.board k d (omega arith));
   rings = λ k d lt. (let l = out.0 in (out.1 k d d (omega arith)).ring ∙ s.order.rings k d (omega arith));
 }
 
-pub are_carried : (c : Script) (turns : ℕ) (b : Facts) (xs ys : List Hand) → AreStarting c b xs → AllCarriedOut c turns xs ys → All (λ h. h.halt ≡ None) ys → All (λ h. IsCarried c h) ys
+pub are_carried : (c : Script) (turns : ℕ) (b : Facts) (xs ys : List Actor) → AreStarting c b xs → AllCarriedOut c turns xs ys → All (λ h. h.halt ≡ None) ys → All (λ h. IsCarried c h) ys
 are_carried c turns b xs ys s out none k d lt = let l = out.0 in (out.1 k d d (omega arith)).carried (s.new k d (omega arith)).0 (none k d (omega arith))
 
-pub of_board : (b : Facts) (hands : List Hand) → AreInOrder b hands → AreClients b (map client_of hands)
+pub of_board : (b : Facts) (actors : List Actor) → AreInOrder b actors → AreClients b (map client_of actors)
 of_board b [] o k d lt = absurd (omega arith)
-of_board b (h ∷ hands) o k d lt =
-    let long = length-map (h ∷ hands) client_of in
-    ap (λ (x : ClientFacts). x.board) (get_or-map client_of (h ∷ hands) k h d (omega arith)) ∙ o.board k h (omega arith)
+of_board b (h ∷ actors) o k d lt =
+    let long = length-map (h ∷ actors) client_of in
+    ap (λ (x : ClientFacts). x.board) (get_or-map client_of (h ∷ actors) k h d (omega arith)) ∙ o.board k h (omega arith)
 
 -- ---- the start
 
@@ -36,8 +36,8 @@ counts_long : (rs : List RingShape) → length (counts rs) ≡ length rs
 counts_long [] = refl
 counts_long (r ∷ rs) = ap suc (counts_long rs)
 
-new_hand : (c : Script) (b : Facts) (n : ℕ) (h : Hand) → IsNewClient b n h.client → h.taken.items ≡ [] → IsNewHand c h
-new_hand c b n h new none =
+new_actor : (c : Script) (b : Facts) (n : ℕ) (h : Actor) → IsNewClient b n h.client → h.taken.items ≡ [] → IsNewActor c h
+new_actor c b n h new none =
     let i : ℕ = h.client.ring in
     let start : HasCarried c i [] 0 [] = record { keeps = tt; count = refl; are_done = tt } in
     record {
@@ -45,19 +45,19 @@ new_hand c b n h new none =
       taken = subst (λ (xs : List Completion). AreTaken (events_of h.client.submitter.view.seen) xs) (sym none) tt;
     }
 
-pub starts : (c : Script) (s : Shape) (b : Facts) (hands : List Hand) (clients : List ClientFacts) → IsStarted s b clients → map client_of hands ≡ clients → AreNew hands → AreStarting c b hands
-starts c s b hands clients is order new =
-    let long : length (map client_of hands) ≡ length hands = length-map hands client_of in
-    let count : length hands ≡ length clients = sym long ∙ ap length order in
-    let one : (k : ℕ) (d : Hand) → k < length hands → IsNewClient b k (get_or hands k d).client = λ k d lt. (
-    subst (λ (x : ClientFacts). IsNewClient b k x) (ap (λ (xs : List ClientFacts). get_or xs k (client_of d)) (sym order) ∙ get_or-map client_of hands k d (client_of d) lt) (subst (λ (m : ℕ). IsNewClient b m (get_or clients k (client_of d))) (let z : 0 + k ≡ k = omega arith in z) (new_at b 0 clients k (client_of d) is.each (omega arith)))) in
+pub starts : (c : Script) (s : Shape) (b : Facts) (actors : List Actor) (clients : List ClientFacts) → IsStarted s b clients → map client_of actors ≡ clients → AreNew actors → AreStarting c b actors
+starts c s b actors clients is order new =
+    let long : length (map client_of actors) ≡ length actors = length-map actors client_of in
+    let count : length actors ≡ length clients = sym long ∙ ap length order in
+    let one : (k : ℕ) (d : Actor) → k < length actors → IsNewClient b k (get_or actors k d).client = λ k d lt. (
+    subst (λ (x : ClientFacts). IsNewClient b k x) (ap (λ (xs : List ClientFacts). get_or xs k (client_of d)) (sym order) ∙ get_or-map client_of actors k d (client_of d) lt) (subst (λ (m : ℕ). IsNewClient b m (get_or clients k (client_of d))) (let z : 0 + k ≡ k = omega arith in z) (new_at b 0 clients k (client_of d) is.each (omega arith)))) in
     record {
       order = record {
         count = count ∙ (is.count ∙ (sym (counts_long s.rings.items) ∙ ap length (sym is.cells)));
         board = λ k d lt. (one k d lt).0;
         rings = λ k d lt. (one k d lt).1;
       };
-      new = λ k d lt. (new_hand c b k (get_or hands k d) (one k d lt) (new k d lt).0, (new k d lt).1);
+      new = λ k d lt. (new_actor c b k (get_or actors k d) (one k d lt) (new k d lt).0, (new k d lt).1);
     }
 
 pub same_setup : (c : Script) (s : Shape) (b : Facts) (clients : List ClientFacts) → IsStarted s b clients → length s.rings.items ≡ length c.rings.items → s.pipes.items ≡ c.pipes.items → Cells.setup_of b.layout ≡ setup_of c
@@ -68,12 +68,12 @@ same_setup c s b clients is rings pipes =
 
 -- ---- all of it
 
-pub played : (c : Script) (b : Facts) (hands : List Hand) (clients : List ClientFacts) (taken : List Completion) (report : List (Completion × Bool)) (own lines : List ClockLine) (next tries most : ℕ) (is_stuck : Bool)
-    → AreInOrder b hands → All (λ h. IsCarried c h) hands → clients ≡ map client_of hands → taken ≡ taken_by hands → own ≡ lines → length lines ≤ next → AreClockLines c c.clock.items lines
+pub played : (c : Script) (b : Facts) (actors : List Actor) (clients : List ClientFacts) (taken : List Completion) (report : List (Completion × Bool)) (own lines : List ClockLine) (next tries most : ℕ) (is_stuck : Bool)
+    → AreInOrder b actors → All (λ h. IsCarried c h) actors → clients ≡ map client_of actors → taken ≡ taken_by actors → own ≡ lines → length lines ≤ next → AreClockLines c c.clock.items lines
     → (poller : Pass) × (workers : List Pass) × IsReport b (poller ∷ (map submitter_of clients ++ workers)) report × IsAtLine own next tries most is_stuck (seen_of poller) × (poller.view.role ≡ Poller (length b.layout.cells)) × CameToRest b poller workers
     → IsPlayed c b taken report
-played c b hands clients taken report own lines next tries most is_stuck order carried is all same le are x = record {
-  hands = hands;
+played c b actors clients taken report own lines next tries most is_stuck order carried is all same le are x = record {
+  actors = actors;
   order = order;
   carried = carried;
   taken_is = all;

@@ -3,7 +3,7 @@ use Rattle.runtime.specs.Rests.{CameToRest}
 use Rattle.script_run.specs.declared.clock.Ended.{Ended}
 use Rattle.script_run.specs.declared.fault.RunFault.{RunFault}
 use Rattle.script_run.specs.Faults.{IfStuckOn, IsUnstuck}
-use Rattle.script_run.proofs.Common.{Act, All, AllCarriedOut, AreClockLines, AreInOrder, AreStarting, Armed, Bool, ClientFacts, ClockLine, Completion, EndsAs, Event, Facts, Hand, HasLabel, HasTimed, IsAtLine, IsCarried, IsClockLine, IsFor, IsLowest, IsOfPlace, IsReport, IsStartedFor, IsStuck, IsStuckClock, IsStuckOn, IsStuckRing, IsTimed, IsUndone, List, Pass, Poller, Script, Some, Tick, Wait, WasTried, WasUndone, ap, arith, drop, false, holds_for, is_armed, is_done, is_replied, length, map, max, seen_of, slice_get, submitter_of, subst, suc, sym, take, zero, ℕ, ◌++◌, ◌+◌, ◌<◌, ◌||◌, ◌∙◌, ◌∷◌, ◌≡◌}
+use Rattle.script_run.proofs.Common.{Act, All, AllCarriedOut, AreClockLines, AreInOrder, AreStarting, Armed, Bool, ClientFacts, ClockLine, Completion, EndsAs, Event, Facts, Actor, HasLabel, HasTimed, IsAtLine, IsCarried, IsClockLine, IsFor, IsLowest, IsOfPlace, IsReport, IsStartedFor, IsStuck, IsStuckClock, IsStuckOn, IsStuckRing, IsTimed, IsUndone, List, Pass, Poller, Script, Some, Tick, Wait, WasTried, WasUndone, ap, arith, drop, false, holds_for, is_armed, is_done, is_replied, length, map, max, seen_of, slice_get, submitter_of, subst, suc, sym, take, zero, ℕ, ◌++◌, ◌+◌, ◌<◌, ◌||◌, ◌∙◌, ◌∷◌, ◌≡◌}
 use Rattle.script_run.proofs.ClockSteps.{act_at, around}
 use Rattle.script_run.proofs.RunSteps.{in_order}
 
@@ -17,11 +17,11 @@ unstuck P f k = if_stuck_on (λ _. ⊥) P f (λ label none. absurd none) k
 
 -- ---- a ring's line
 
-pub stuck_ring : (c : Script) (turns : ℕ) (b : Facts) (xs ys : List Hand) (p : ℕ) (label : List ℕ) → AreStarting c b xs → AllCarriedOut c turns xs ys → IsLowest ys (length ys) p → HasLabel c p label → IsStuckRing c turns b label
+pub stuck_ring : (c : Script) (turns : ℕ) (b : Facts) (xs ys : List Actor) (p : ℕ) (label : List ℕ) → AreStarting c b xs → AllCarriedOut c turns xs ys → IsLowest ys (length ys) p → HasLabel c p label → IsStuckRing c turns b label
 stuck_ring c turns b xs ys p label s out low is =
     let l = out.0 in let below = low.below in
     record {
-      hands = ys;
+      actors = ys;
       order = in_order c turns b xs ys s out;
       ring = low.ring;
       there = low.below;
@@ -49,11 +49,11 @@ all_undone : (c : Script) (a : Act) (l : ClockLine) (n : ℕ) (h : List Event) �
 all_undone c a l zero h i k = tt
 all_undone c a l (suc n) h i k = (k.0, k.1, k.2, undone_now c a l k.1 i k.3, all_undone c a l n k.1 i k.4)
 
-pub stuck_clock : (c : Script) (turns : ℕ) (b : Facts) (hands : List Hand) (clients : List ClientFacts) (own lines : List ClockLine) (next tries most : ℕ) (is_stuck : Bool) (report : List (Completion × Bool)) (p : ℕ) (label : List ℕ)
-    → AreInOrder b hands → All (λ h. IsCarried c h) hands → AreClockLines c c.clock.items lines → EndsAs own next most is_stuck lines turns (Ended.Stuck p)
+pub stuck_clock : (c : Script) (turns : ℕ) (b : Facts) (actors : List Actor) (clients : List ClientFacts) (own lines : List ClockLine) (next tries most : ℕ) (is_stuck : Bool) (report : List (Completion × Bool)) (p : ℕ) (label : List ℕ)
+    → AreInOrder b actors → All (λ h. IsCarried c h) actors → AreClockLines c c.clock.items lines → EndsAs own next most is_stuck lines turns (Ended.Stuck p)
     → (poller : Pass) × (workers : List Pass) × IsReport b (poller ∷ (map submitter_of clients ++ workers)) report × IsAtLine own next tries most is_stuck (seen_of poller) × (poller.view.role ≡ Poller (length b.layout.cells)) × CameToRest b poller workers
     → HasLabel c p label → IsStuckClock c turns b label
-stuck_clock c turns b hands clients own lines next tries most is_stuck report p label order carried are e x label_is =
+stuck_clock c turns b actors clients own lines next tries most is_stuck report p label order carried are e x label_is =
     let h : List Event = seen_of x.0 in
     let l : ClockLine = e.3.0 in
     let here = act_at c c.clock.items lines next l are e.3.1 in
@@ -63,7 +63,7 @@ stuck_clock c turns b hands clients own lines next tries most is_stuck report p 
     let count : tries ≡ max turns 1 = x.3.all e.2 ∙ ap (λ (n : ℕ). max n 1) e.1 in
     let tried : WasTried (Some l) (max turns 1) h = subst (λ (n : ℕ). WasTried (Some l) n h) count (subst (λ o. WasTried o tries h) line x.3.tried) in
     record {
-      hands = hands;
+      actors = actors;
       order = order;
       carried = carried;
       poller = x.0;

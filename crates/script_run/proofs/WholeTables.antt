@@ -5,12 +5,12 @@ use Rattle.steps.specs.declared.line.Line.TheVariants.{Did}
 use Rattle.steps.specs.Cells
 use Rattle.steps.specs.Rule.{owns, NoneOf, Saw}
 use Rattle.entry.specs.Entry.{Entry}
-use Rattle.script.specs.{home, AreHomes, data_count}
+use Rattle.script.specs.{request_of, AreRequests, data_count}
 use Rattle.script.proofs.CountedLines.{acts_long}
-use Rattle.script.proofs.HomeEntries.{handed_home}
-use Rattle.script.proofs.HomesRead.{home_is}
+use Rattle.script.proofs.RequestEntries.{handed_request}
+use Rattle.script.proofs.RequestsRead.{request_is}
 use Rattle.script.proofs.RowData.{data_long}
-use Rattle.script_run.proofs.Common.{Act, AllTell, AreRows, AreTaken, Bool, Completion, Event, Facts, Hand, HandAt, HasCarried, HasTimed, IsCarried, IsCompletion, IsFound, IsPlayed, IsRow, IsTableOf, Keeps, KeepsRing, Legal, Line, List, None, Option, Pass, Poller, Req, Role, SawOwnLines, Script, Setup, Some, Submitter, Vec, [], all_keep, ap, arith, client_of, clock_at_end, data_of, drop, ended, events_of, false, get_or, get_or-map, length, length-map, map, none-some, none_keeps, refl, ring_at_end, row_of, setup_of, slice_get, slice_get-map, slice_get_cases, slice_get_within, submitter_of, subst, suc, sym, take, take-append-le, take-length, taken_by, timed_on, true, true≢false, was_shut, zero, ℕ, ℤ, ⊎_elim, ◌++◌, ◌<◌, ◌∙◌, ◌∷◌, ◌≡◌, ◌≤◌}
+use Rattle.script_run.proofs.Common.{Act, AllTell, AreRows, AreTaken, Bool, Completion, Event, Facts, Actor, ActorAt, HasCarried, HasTimed, IsCarried, IsCompletion, IsFound, IsPlayed, IsRow, IsTableOf, Keeps, KeepsRing, Legal, Line, List, None, Option, Pass, Poller, Req, Role, SawOwnLines, Script, Setup, Some, Submitter, Vec, [], all_keep, ap, arith, client_of, clock_at_end, data_of, drop, ended, events_of, false, get_or, get_or-map, length, length-map, map, none-some, none_keeps, refl, ring_at_end, row_of, setup_of, slice_get, slice_get-map, slice_get_cases, slice_get_within, submitter_of, subst, suc, sym, take, take-append-le, take-length, taken_by, timed_on, true, true≢false, was_shut, zero, ℕ, ℤ, ⊎_elim, ◌++◌, ◌<◌, ◌∙◌, ◌∷◌, ◌≡◌, ◌≤◌}
 use Rattle.script_run.proofs.ClientCalls.{all_taken, carried_without, taken_by_line}
 
 -- ---- the history that was ended
@@ -67,52 +67,52 @@ module _ (c : Script) (b : Facts) (taken : List Completion) (lines : List (Compl
   shut : Legal s (Event.Shut ∷ h)
   shut = legal_shut s h lines legal
 
-  -- what the hand of a ring has done
-  record HandOf (i : ℕ) : Type 0 where
-    hand : Hand
-    ring : hand.client.ring ≡ i
-    carried : IsCarried c hand
-    saw : Saw hand.client.submitter.view.role hand.client.submitter.view.seen p.report.all
+  -- what the actor of a ring has done
+  record ActorOf (i : ℕ) : Type 0 where
+    actor : Actor
+    ring : actor.client.ring ≡ i
+    carried : IsCarried c actor
+    saw : Saw actor.client.submitter.view.role actor.client.submitter.view.seen p.report.all
 
-  hand_at : (k : ℕ) (d : Hand) → k < length p.hands → HandOf k
-  hand_at k d lt =
-      let passes : List Pass = map submitter_of (map client_of p.hands) in
-      let x : Hand = get_or p.hands k d in
-      let one : get_or (map client_of p.hands) k (client_of d) ≡ client_of x = get_or-map client_of p.hands k d (client_of d) lt in
-      let long : length (map client_of p.hands) ≡ length p.hands = length-map p.hands client_of in
-      let more : length passes ≡ length (map client_of p.hands) = length-map (map client_of p.hands) submitter_of in
-      let two : get_or passes k (submitter_of (client_of d)) ≡ submitter_of (client_of x) = get_or-map submitter_of (map client_of p.hands) k (client_of d) (submitter_of (client_of d)) (omega arith) ∙ ap submitter_of one in
+  actor_at : (k : ℕ) (d : Actor) → k < length p.actors → ActorOf k
+  actor_at k d lt =
+      let passes : List Pass = map submitter_of (map client_of p.actors) in
+      let x : Actor = get_or p.actors k d in
+      let one : get_or (map client_of p.actors) k (client_of d) ≡ client_of x = get_or-map client_of p.actors k d (client_of d) lt in
+      let long : length (map client_of p.actors) ≡ length p.actors = length-map p.actors client_of in
+      let more : length passes ≡ length (map client_of p.actors) = length-map (map client_of p.actors) submitter_of in
+      let two : get_or passes k (submitter_of (client_of d)) ≡ submitter_of (client_of x) = get_or-map submitter_of (map client_of p.actors) k (client_of d) (submitter_of (client_of d)) (omega arith) ∙ ap submitter_of one in
       record {
-        hand = x;
+        actor = x;
         ring = p.order.rings k d lt;
         carried = p.carried k d lt;
         saw = subst (λ (q : Pass). Saw q.view.role q.view.seen p.report.all) two (saw_at p.report.all passes p.workers k (submitter_of (client_of d)) p.report.own.1 (omega arith));
       }
 
-  ring_carried : (i : ℕ) (v : Vec Act) → slice_get c.acts.items i ≡ Some v → HandOf i → HasCarried c i v.items 0 h
+  ring_carried : (i : ℕ) (v : Vec Act) → slice_get c.acts.items i ≡ Some v → ActorOf i → HasCarried c i v.items 0 h
   ring_carried i v at x =
-      let k : HandAt c v.items 0 x.hand = x.carried.through v (ap (slice_get c.acts.items) x.ring ∙ at) in
-      let j : ℕ = x.hand.client.ring in
+      let k : ActorAt c v.items 0 x.actor = x.carried.through v (ap (slice_get c.acts.items) x.ring ∙ at) in
+      let j : ℕ = x.actor.client.ring in
       let none : NoneOf (Submitter j) x.saw.later = subst (λ (z : Role). NoneOf z x.saw.later) k.role x.saw.none in
-      let l : Legal s (events_of (x.saw.later ++ x.hand.client.submitter.view.seen)) = subst (λ (z : List Line). Legal s (events_of z)) x.saw.is shut.1 in
-      let on = carried_without c s j v.items 0 x.saw.later x.hand.client.submitter.view.seen l none k.carried in
+      let l : Legal s (events_of (x.saw.later ++ x.actor.client.submitter.view.seen)) = subst (λ (z : List Line). Legal s (events_of z)) x.saw.is shut.1 in
+      let on = carried_without c s j v.items 0 x.saw.later x.actor.client.submitter.view.seen l none k.carried in
       subst (λ (z : ℕ). HasCarried c z v.items 0 h) x.ring (subst (λ (z : List Line). HasCarried c j v.items 0 (events_of z)) (sym x.saw.is) on)
 
-  count_is : length p.hands ≡ length c.acts.items
+  count_is : length p.actors ≡ length c.acts.items
   count_is =
       let long : length c.acts.items ≡ length c.rings.items = acts_long c in
       let rings : length b.layout.cells ≡ length c.rings.items = ap (λ (z : Setup). z.rings) same in
       p.order.count ∙ (rings ∙ sym long)
 
-  some_hand : (i : ℕ) → i < length c.acts.items → HandOf i
-  some_hand i lt = pick p.hands refl where
-    pick : (hands : List Hand) → hands ≡ p.hands → HandOf i
-    pick [] e = absurd (let z : 0 ≡ length p.hands = ap length e in let n = count_is in omega arith)
-    pick (x ∷ hands) e = hand_at i x (let n = count_is in omega arith)
+  some_actor : (i : ℕ) → i < length c.acts.items → ActorOf i
+  some_actor i lt = pick p.actors refl where
+    pick : (actors : List Actor) → actors ≡ p.actors → ActorOf i
+    pick [] e = absurd (let z : 0 ≡ length p.actors = ap length e in let n = count_is in omega arith)
+    pick (x ∷ actors) e = actor_at i x (let n = count_is in omega arith)
 
   ring_keeps : (i : ℕ) → KeepsRing c i h
   ring_keeps i = ⊎_elim
-      (λ (z : (v : Vec Act) × (i < length c.acts.items) × (slice_get c.acts.items i ≡ Some v) × (get_or c.acts.items i v ≡ v)). (ring_carried i z.0 z.2 (some_hand i z.1)).keeps)
+      (λ (z : (v : Vec Act) × (i < length c.acts.items) × (slice_get c.acts.items i ≡ Some v) × (get_or c.acts.items i v ≡ v)). (ring_carried i z.0 z.2 (some_actor i z.1)).keeps)
       (λ (z : (length c.acts.items ≤ i) × (slice_get c.acts.items i ≡ None)). none_keeps c s i h shut.1 (let long : length c.acts.items ≡ length c.rings.items = acts_long c in omega arith))
       (slice_get_cases c.acts.items i).1
 
@@ -126,34 +126,34 @@ module _ (c : Script) (b : Facts) (taken : List Completion) (lines : List (Compl
   pub keeps : Keeps c (ended lines h)
   keeps = keeps_ended c h lines (
     (
-      λ i v at. ring_at_end c i v.items h (ring_carried i v at (some_hand i (slice_get_within c.acts.items i v at))),
+      λ i v at. ring_at_end c i v.items h (ring_carried i v at (some_actor i (slice_get_within c.acts.items i v at))),
       clock_at_end c c.clock.items p.left h refl clock_carried,
     ),
     all_keep c h ring_keeps clock_carried.keeps shut.0.0,
   )
 
   -- all that was taken are completions of the whole
-  taken_at : (k : ℕ) (d : Hand) → k < length p.hands → AreTaken (ended lines h) (get_or p.hands k d).taken.items
+  taken_at : (k : ℕ) (d : Actor) → k < length p.actors → AreTaken (ended lines h) (get_or p.actors k d).taken.items
   taken_at k d lt =
-      let x : Hand = get_or p.hands k d in
-      let passes : List Pass = map submitter_of (map client_of p.hands) in
-      let long : length (map client_of p.hands) ≡ length p.hands = length-map p.hands client_of in
-      let more : length passes ≡ length (map client_of p.hands) = length-map (map client_of p.hands) submitter_of in
-      let one : get_or (map client_of p.hands) k (client_of d) ≡ client_of x = get_or-map client_of p.hands k d (client_of d) lt in
-      let two : get_or passes k (submitter_of (client_of d)) ≡ submitter_of (client_of x) = get_or-map submitter_of (map client_of p.hands) k (client_of d) (submitter_of (client_of d)) (omega arith) ∙ ap submitter_of one in
+      let x : Actor = get_or p.actors k d in
+      let passes : List Pass = map submitter_of (map client_of p.actors) in
+      let long : length (map client_of p.actors) ≡ length p.actors = length-map p.actors client_of in
+      let more : length passes ≡ length (map client_of p.actors) = length-map (map client_of p.actors) submitter_of in
+      let one : get_or (map client_of p.actors) k (client_of d) ≡ client_of x = get_or-map client_of p.actors k d (client_of d) lt in
+      let two : get_or passes k (submitter_of (client_of d)) ≡ submitter_of (client_of x) = get_or-map submitter_of (map client_of p.actors) k (client_of d) (submitter_of (client_of d)) (omega arith) ∙ ap submitter_of one in
       let saw : Saw x.client.submitter.view.role x.client.submitter.view.seen p.report.all = subst (λ (q : Pass). Saw q.view.role q.view.seen p.report.all) two (saw_at p.report.all passes p.workers k (submitter_of (client_of d)) p.report.own.1 (omega arith)) in
       let l : Legal s (events_of (saw.later ++ x.client.submitter.view.seen)) = subst (λ (z : List Line). Legal s (events_of z)) saw.is shut.1 in
       taken_ended s h lines x.taken.items legal (subst (λ (z : List Line). AreTaken (events_of z) x.taken.items) (sym saw.is) (taken_by_line s saw.later x.client.submitter.view.seen x.taken.items l (p.carried k d lt).taken))
 
   taken_all : AreTaken (ended lines h) taken
-  taken_all = subst (AreTaken (ended lines h)) (sym p.taken_is) (all_of p.hands taken_at) where
+  taken_all = subst (AreTaken (ended lines h)) (sym p.taken_is) (all_of p.actors taken_at) where
     both : (xs ys : List Completion) → AreTaken (ended lines h) xs → AreTaken (ended lines h) ys → AreTaken (ended lines h) (xs ++ ys)
     both [] ys a b = b
     both (x ∷ xs) ys a b = (a.0, both xs ys a.1 b)
 
-    all_of : (hands : List Hand) → ((k : ℕ) (d : Hand) → k < length hands → AreTaken (ended lines h) (get_or hands k d).taken.items) → AreTaken (ended lines h) (taken_by hands)
+    all_of : (actors : List Actor) → ((k : ℕ) (d : Actor) → k < length actors → AreTaken (ended lines h) (get_or actors k d).taken.items) → AreTaken (ended lines h) (taken_by actors)
     all_of [] each = tt
-    all_of (x ∷ hands) each = both x.taken.items (taken_by hands) (each 0 x (omega arith)) (all_of hands (λ k d lt. each (suc k) d (omega arith)))
+    all_of (x ∷ actors) each = both x.taken.items (taken_by actors) (each 0 x (omega arith)) (all_of actors (λ k d lt. each (suc k) d (omega arith)))
 
   -- ---- the rows
 
@@ -177,19 +177,19 @@ module _ (c : Script) (b : Facts) (taken : List Completion) (lines : List (Compl
   front_is : (d rest : List ℕ) (n : ℕ) → length d ≡ n → take n (d ++ rest) ≡ d
   front_is d rest n e = take-append-le n d rest (omega arith) ∙ (ap (λ (m : ℕ). take m d) (sym e) ∙ take-length d)
 
-  row_at : (homes : List (Option Req)) (place : ℕ) (row : ℤ × Vec ℕ) → AreHomes c homes → IsRow c homes taken lines place row → Some (row.0, row.1.items) ≡ row_of (ended lines h) (home c place)
-  row_at homes place row at z =
-      let is : home c place ≡ Some z.req = home_is c homes at place (Some z.req) z.home_is in
+  row_at : (requests : List (Option Req)) (place : ℕ) (row : ℤ × Vec ℕ) → AreRequests c requests → IsRow c requests taken lines place row → Some (row.0, row.1.items) ≡ row_of (ended lines h) (request_of c place)
+  row_at requests place row at z =
+      let is : request_of c place ≡ Some z.req = request_is c requests at place (Some z.req) z.request_is in
       let k = found z.req z.completion z.found in
-      let entry : k.entry ≡ z.entry.sqe = handed_home c s (ended lines h) place z.req (record { entry = k.entry; bytes = k.bytes; last = k.end_of_batch }) z.entry legal keeps is z.entry_is k.handed_in in
+      let entry : k.entry ≡ z.entry.sqe = handed_request c s (ended lines h) place z.req (record { entry = k.entry; bytes = k.bytes; last = k.end_of_batch }) z.entry legal keeps is z.entry_is k.handed_in in
       let res = z.completion.cqe.res in
       let long : length (data_of (ended lines h) z.req) ≡ data_count z.entry.sqe.op res = data_long s (ended lines h) z.req legal res (record { entry = k.entry; bytes = k.bytes; last = k.end_of_batch }) k.reply_is k.handed_in ∙ ap (λ (e : Entry). data_count e.op res) entry in
       let bytes : row.1.items ≡ data_of (ended lines h) z.req = z.row_is.bytes ∙ (ap (take (data_count z.entry.sqe.op res)) k.buffer ∙ front_is (data_of (ended lines h) z.req) (drop (length (data_of (ended lines h) z.req)) k.bytes) (data_count z.entry.sqe.op res) long) in
       let told : row_of (ended lines h) (Some z.req) ≡ Some (res, data_of (ended lines h) z.req) = ap (option_map (λ (v : ℤ). (v, data_of (ended lines h) z.req))) k.reply_is in
       (λ j. Some (z.row_is.reply j, bytes j)) ∙ (sym told ∙ ap (row_of (ended lines h)) (sym is))
 
-  pub is_table : (homes : List (Option Req)) (rows : List (ℤ × Vec ℕ)) → AreHomes c homes → length rows ≡ length c.entries.items → AreRows c homes taken lines rows → IsTableOf c (map (λ (l : ℤ × Vec ℕ). (l.0, l.1.items)) rows)
-  is_table homes rows at count each = (
+  pub is_table : (requests : List (Option Req)) (rows : List (ℤ × Vec ℕ)) → AreRequests c requests → length rows ≡ length c.entries.items → AreRows c requests taken lines rows → IsTableOf c (map (λ (l : ℤ × Vec ℕ). (l.0, l.1.items)) rows)
+  is_table requests rows at count each = (
     ended lines h,
     record {
       run = record { legal = legal; keeps = keeps };
@@ -198,7 +198,7 @@ module _ (c : Script) (b : Facts) (taken : List Completion) (lines : List (Compl
         all = length-map rows (λ (l : ℤ × Vec ℕ). (l.0, l.1.items)) ∙ count;
         each = λ place lt. ⊎_elim
             (λ (z : (x : ℤ × Vec ℕ) × (place < length rows) × (slice_get rows place ≡ Some x) × (get_or rows place x ≡ x)).
-            slice_get-map (λ (l : ℤ × Vec ℕ). (l.0, l.1.items)) rows place ∙ (ap (option_map (λ (l : ℤ × Vec ℕ). (l.0, l.1.items))) z.2 ∙ row_at homes place z.0 at (each place z.0 z.2)))
+            slice_get-map (λ (l : ℤ × Vec ℕ). (l.0, l.1.items)) rows place ∙ (ap (option_map (λ (l : ℤ × Vec ℕ). (l.0, l.1.items))) z.2 ∙ row_at requests place z.0 at (each place z.0 z.2)))
             (λ (z : (length rows ≤ place) × (slice_get rows place ≡ None)). absurd (omega arith))
             (slice_get_cases rows place).1;
       };

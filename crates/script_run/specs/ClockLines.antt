@@ -6,14 +6,14 @@ use Rattle.board.specs.declared.phase.Phase.{Phase}
 use Rattle.board.specs.declared.phase.Phase.TheVariants.{Done, Gone}
 use Rattle.script.specs.declared.act.Act.{Act}
 use Rattle.script.specs.declared.script.Script.{Script}
-use Rattle.script.specs.{HasTimed, home}
+use Rattle.script.specs.{HasTimed, request_of}
 use Rattle.script_run.specs.declared.clock.ClockLine.{ClockLine}
 use Rattle.script_run.specs.declared.clock.ClockLine.TheVariants.{Wait, Armed, Tick}
 
 -- the line is this one of the script, with the request and the place of its entry
 abbrev pub IsClockLine : Script → Act → ClockLine → Type 0
-IsClockLine c (Act.Wait p) (Wait r q) = (home c p ≡ Some r) × (p ≡ q)
-IsClockLine c (Act.Armed p) (Armed r q) = (home c p ≡ Some r) × (p ≡ q)
+IsClockLine c (Act.Wait p) (Wait r q) = (request_of c p ≡ Some r) × (p ≡ q)
+IsClockLine c (Act.Armed p) (Armed r q) = (request_of c p ≡ Some r) × (p ≡ q)
 IsClockLine c (Act.Tick n) (Tick m) = n ≡ m
 IsClockLine c _ _ = ⊥
 

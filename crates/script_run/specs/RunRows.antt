@@ -7,7 +7,7 @@ use Rattle.script.specs.declared.named.Named.{Named}
 use Rattle.script.specs.declared.script.Script.{Script}
 use Rattle.work.specs.Board.{Facts}
 use Rattle.runtime.specs.Clients.{ClientFacts}
-use Rattle.script.specs.{AreHomes, data_count}
+use Rattle.script.specs.{AreRequests, data_count}
 use Rattle.script_run.specs.Played.{IsPlayed, IsStartedFor}
 
 -- the request's completion, among those that were taken and those of the end
@@ -21,18 +21,18 @@ pub record IsRowOf (e : Named) (x : Completion) (row : ℤ × Vec ℕ) : Type 0 
   pub bytes : row.1.items ≡ take (data_count e.sqe.op x.cqe.res) x.buffer.items
 
 -- the row of the entry at a place is that of the completion of its request
-pub record IsRow (c : Script) (homes : List (Option Req)) (taken : List Completion) (left : List (Completion × Bool)) (place : ℕ) (row : ℤ × Vec ℕ) : Type 0 where
+pub record IsRow (c : Script) (requests : List (Option Req)) (taken : List Completion) (left : List (Completion × Bool)) (place : ℕ) (row : ℤ × Vec ℕ) : Type 0 where
   pub entry : Named
   pub entry_is : slice_get c.entries.items place ≡ Some entry
   pub req : Req
-  pub home_is : slice_get homes place ≡ Some (Some req)
+  pub request_is : slice_get requests place ≡ Some (Some req)
   pub completion : Completion
   pub found : IsFound req taken left completion
   pub row_is : IsRowOf entry completion row
 
 -- each entry has its row
 abbrev pub AreRows : Script → List (Option Req) → List Completion → List (Completion × Bool) → List (ℤ × Vec ℕ) → Type 0
-AreRows c homes taken left rows = (place : ℕ) (row : ℤ × Vec ℕ) → slice_get rows place ≡ Some row → IsRow c homes taken left place row
+AreRows c requests taken left rows = (place : ℕ) (row : ℤ × Vec ℕ) → slice_get rows place ≡ Some row → IsRow c requests taken left place row
 
 -- a run of the script with this number of workers has these rows: all its lines were carried out on a board that was started for them, and each row is that of a completion which was taken or stands in the report
 pub record HasRun (c : Script) (workers : ℕ) (rows : List (ℤ × Vec ℕ)) : Type 0 where
@@ -42,6 +42,6 @@ pub record HasRun (c : Script) (workers : ℕ) (rows : List (ℤ × Vec ℕ)) : 
   pub taken : List Completion
   pub left : List (Completion × Bool)
   pub played : IsPlayed c board taken left
-  pub homes : List (Option Req)
-  pub are_homes : AreHomes c homes
-  pub rows_are : AreRows c homes taken left rows
+  pub requests : List (Option Req)
+  pub are_requests : AreRequests c requests
+  pub rows_are : AreRows c requests taken left rows

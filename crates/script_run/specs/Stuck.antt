@@ -9,8 +9,8 @@ use Rattle.script.specs.declared.act.Act.{Act}
 use Rattle.script.specs.declared.named.Named.{Named}
 use Rattle.script.specs.declared.script.Script.{Script}
 use Rattle.script.specs.{HasTimed, is_done}
-use Rattle.script_run.specs.declared.hand.Hand.{Hand}
-use Rattle.script_run.specs.Hands.{IsCarried}
+use Rattle.script_run.specs.declared.actor.Actor.{Actor}
+use Rattle.script_run.specs.Actors.{IsCarried}
 use Rattle.script_run.specs.Played.{AreInOrder, IsStartedFor}
 use Rattle.script_run.specs.Tries.{IsFor, IsStuckLine}
 
@@ -20,13 +20,13 @@ HasLabel c p label = (e : Named) × (slice_get c.entries.items p ≡ Some e) × 
 
 -- the line of a ring ran out of tries, and those of all lower rings are carried out
 pub record IsStuckRing (c : Script) (turns : ℕ) (b : Facts) (label : List ℕ) : Type 0 where
-  pub hands : List Hand
-  pub order : AreInOrder b hands
+  pub actors : List Actor
+  pub order : AreInOrder b actors
   pub ring : ℕ
-  pub there : ring < length hands
+  pub there : ring < length actors
   pub place : ℕ
-  pub stuck : (d : Hand) → IsStuckLine c turns place (slice_index_or hands ring d)
-  pub lower : (k : ℕ) (d : Hand) → k < ring → IsCarried c (slice_index_or hands k d)
+  pub stuck : (d : Actor) → IsStuckLine c turns place (slice_index_or actors ring d)
+  pub lower : (k : ℕ) (d : Actor) → k < ring → IsCarried c (slice_index_or actors k d)
   pub label_is : HasLabel c place label
 
 -- ---- the clock's line
@@ -38,9 +38,9 @@ WasUndone c act (suc n) h = (later : List Event) × (seen : List Event) × (h �
 
 -- the lines of all rings are carried out, and the clock's before one that ran out of tries, of which there is at least one, and then the runtime came to rest
 pub record IsStuckClock (c : Script) (turns : ℕ) (b : Facts) (label : List ℕ) : Type 0 where
-  pub hands : List Hand
-  pub order : AreInOrder b hands
-  pub carried : All (λ h. IsCarried c h) hands
+  pub actors : List Actor
+  pub order : AreInOrder b actors
+  pub carried : All (λ h. IsCarried c h) actors
   pub poller : Pass
   pub role : poller.view.role ≡ Poller (length b.layout.cells)
   pub workers : List Pass

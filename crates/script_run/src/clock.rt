@@ -1,10 +1,10 @@
 //! The clock's lines, carried out by the poller's thread: one try a turn.
 ghost use Rattle.std.specs.Prelude.{◌≡◌, ◌+◌, ◌<◌, ◌≤◌, ◌^◌, ◌||◌, [], min, nat_le, IfOk, IfErr, IfSome, IsTrue, length, true, false};
-ghost use Rattle.script.specs.Homes.{AreHomes};
+ghost use Rattle.script.specs.Requests.{AreRequests};
 ghost use Rattle.script_run.specs.{IsClockLine, AreClockLines, has_reply, is_ready, line_at, EndsAs, IsAtLine, IsOfPlace, IsUnstuck};
 
 use crate::fault::RunFault;
-use crate::stage::home_of;
+use crate::stage::request_for;
 use board::Phase;
 use controls::Clock;
 use history::Req;
@@ -79,14 +79,14 @@ pub(crate) struct LineClock {
 }
 
 /// A line of the clock. None where it waits for an entry that is in no ring.
-fn line_of(script: &Script, homes: &[Option<Req>], act: &Act) -> Option<ClockLine>
-    requires { AreHomes script.now homes.now }
+fn line_of(script: &Script, requests: &[Option<Req>], act: &Act) -> Option<ClockLine>
+    requires { AreRequests script.now requests.now }
     ensures { IfSome result (IsClockLine script.now act.now) }
 {
     let _ = script;
     match act {
-        Act::Wait(place) => Some(ClockLine::Wait(home_of(homes, *place)?, *place)),
-        Act::Armed(place) => Some(ClockLine::Armed(home_of(homes, *place)?, *place)),
+        Act::Wait(place) => Some(ClockLine::Wait(request_for(requests, *place)?, *place)),
+        Act::Armed(place) => Some(ClockLine::Armed(request_for(requests, *place)?, *place)),
         Act::Tick(to) => Some(ClockLine::Tick(*to)),
         Act::Submit(_) => None,
     }
@@ -96,15 +96,15 @@ fn line_of(script: &Script, homes: &[Option<Req>], act: &Act) -> Option<ClockLin
 pub(crate) fn lines_of(
     alloc: Global,
     script: &Script,
-    homes: &[Option<Req>],
+    requests: &[Option<Req>],
 ) -> Result<Vec<ClockLine>, RunFault>
-    requires { AreHomes script.now homes.now }
+    requires { AreRequests script.now requests.now }
     ensures lines { IfOk result (λ v. AreClockLines script.now script.now.clock.items v.items) }
     ensures unstuck { IfErr result IsUnstuck }
 {
     let mut lines = Vec::with_capacity(alloc, script.clock.len())?;
     for act in &script.clock {
-        let Some(line) = line_of(script, homes, act) else {
+        let Some(line) = line_of(script, requests, act) else {
             return Err(RunFault::Shared);
         };
         lines.push(line)?;
@@ -260,7 +260,7 @@ impl Clock for LineClock {
         }
     }
 
-    fn tell(&mut self, _now: u32, phase: Option<Phase>) -> Option<u32> {
+    fn advance(&mut self, _now: u32, phase: Option<Phase>) -> Option<u32> {
         self.progress.turns.fetch_add(1, Ordering::SeqCst);
         match self.line()? {
             ClockLine::Wait(_, _) => {

@@ -1,10 +1,10 @@
 //! Scripts carried out on a runtime: each ring's lines in a thread of its own, the clock's in the poller's.
 #![tactic(auto)]
 
+mod actor;
 mod barrier;
 mod clock;
 pub mod fault;
-mod hand;
 mod lines;
 mod pulse;
 mod rows;

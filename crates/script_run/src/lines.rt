@@ -1,12 +1,12 @@
 //! The lines of a ring, carried out one after another.
 ghost use Rattle.std.specs.Prelude.{◌≡◌, IfOk, IfErr, OnOk, None};
 ghost use Rattle.script.specs.declared.act.Act.TheVariants.{Submit, Wait};
-ghost use Rattle.script.specs.Homes.{AreHomes};
-ghost use Rattle.script_run.specs.{AreEntries, Carries, IsNewHand, IsCarried, CarriedOut, IfStuck, IsStuckLine, RanOut};
+ghost use Rattle.script.specs.Requests.{AreRequests};
+ghost use Rattle.script_run.specs.{AreEntries, Carries, IsNewActor, IsCarried, CarriedOut, IfStuck, IsStuckLine, RanOut};
 ghost use Rattle.script_run.specs.declared.lines.Halt.{Halt};
 
-use crate::hand::{Batch, Hand, Tried};
-use crate::stage::{Stage, home_of};
+use crate::actor::{Actor, Batch, Tried};
+use crate::stage::{Stage, request_for};
 use crate::watch::Watch;
 use script::Act;
 use std::alloc::{AllocError, AllocFailed};
@@ -55,55 +55,55 @@ impl Halt {
 
 /// Carries the lines of a ring out, once the threads of all rings have begun. Where it is stopped for want of memory, or refused, it
 /// tells the others to stop.
-pub(crate) fn carry_out<R: Wait>(rt: &R, stage: &Stage<'_>, mut hand: Hand) -> Hand
-    requires { AreHomes stage.now.script.now stage.now.homes.now }
-    ensures { CarriedOut stage.now.script.now stage.now.turns hand result }
+pub(crate) fn carry_out<R: Wait>(rt: &R, stage: &Stage<'_>, mut actor: Actor) -> Actor
+    requires { AreRequests stage.now.script.now stage.now.requests.now }
+    ensures { CarriedOut stage.now.script.now stage.now.turns actor result }
 {
-    match carry_lines(rt, stage, &mut hand) {
+    match carry_lines(rt, stage, &mut actor) {
         Ok(()) => {
-            hand.halt = None;
-            hand
+            actor.halt = None;
+            actor
         }
         Err(halt) => {
             if halt.stops_all() {
                 stage.barrier.stop();
             }
-            hand.halt = Some(halt);
-            hand
+            actor.halt = Some(halt);
+            actor
         }
     }
 }
 
 /// Carries the ring's lines out, up to the first that stops.
-fn carry_lines<R: Wait>(rt: &R, stage: &Stage<'_>, hand: &mut Hand) -> Result<(), Halt>
-    requires { AreHomes stage.now.script.now stage.now.homes.now }
-    ensures same { (hand.new.client.board ≡ hand.old.client.board) × (hand.new.client.ring ≡ hand.old.client.ring) }
-    ensures carried { OnOk result (IsNewHand stage.now.script.now hand.old → IsCarried stage.now.script.now hand.new) }
-    ensures stuck { IfErr result (IfStuck (λ p. IsNewHand stage.now.script.now hand.old → IsStuckLine stage.now.script.now stage.now.turns p hand.new)) }
+fn carry_lines<R: Wait>(rt: &R, stage: &Stage<'_>, actor: &mut Actor) -> Result<(), Halt>
+    requires { AreRequests stage.now.script.now stage.now.requests.now }
+    ensures same { (actor.new.client.board ≡ actor.old.client.board) × (actor.new.client.ring ≡ actor.old.client.ring) }
+    ensures carried { OnOk result (IsNewActor stage.now.script.now actor.old → IsCarried stage.now.script.now actor.new) }
+    ensures stuck { IfErr result (IfStuck (λ p. IsNewActor stage.now.script.now actor.old → IsStuckLine stage.now.script.now stage.now.turns p actor.new)) }
 {
     if !stage.barrier.wait(rt) {
         return Err(Halt::Thread);
     }
-    let Some(lines) = stage.script.acts.get(usize::from(hand.client.ring())) else {
+    let Some(lines) = stage.script.acts.get(usize::from(actor.client.ring())) else {
         return Ok(());
     };
     for act in lines {
-        carry_line(rt, stage, hand, act)?;
+        carry_line(rt, stage, actor, act)?;
         stage.barrier.pulse.go_on();
     }
     Ok(())
 }
 
 /// Carries one line out.
-fn carry_line<R: Wait>(rt: &R, stage: &Stage<'_>, hand: &mut Hand, act: &Act) -> Result<(), Halt>
-    requires { AreHomes stage.now.script.now stage.now.homes.now }
-    ensures same { (hand.new.client.board ≡ hand.old.client.board) × (hand.new.client.ring ≡ hand.old.client.ring) }
-    ensures carried { OnOk result (Carries stage.now.script.now act.now hand.old hand.new) }
-    ensures stuck { IfErr result (IfStuck (λ p. RanOut stage.now.script.now stage.now.turns act.now p hand.old hand.new)) }
+fn carry_line<R: Wait>(rt: &R, stage: &Stage<'_>, actor: &mut Actor, act: &Act) -> Result<(), Halt>
+    requires { AreRequests stage.now.script.now stage.now.requests.now }
+    ensures same { (actor.new.client.board ≡ actor.old.client.board) × (actor.new.client.ring ≡ actor.old.client.ring) }
+    ensures carried { OnOk result (Carries stage.now.script.now act.now actor.old actor.new) }
+    ensures stuck { IfErr result (IfStuck (λ p. RanOut stage.now.script.now stage.now.turns act.now p actor.old actor.new)) }
 {
     match act {
-        Act::Submit(places) => submit_line(rt, stage, hand, places),
-        Act::Wait(place) => wait(rt, stage, hand, *place),
+        Act::Submit(places) => submit_line(rt, stage, actor, places),
+        Act::Wait(place) => wait(rt, stage, actor, *place),
         Act::Armed(_) | Act::Tick(_) => Err(Halt::Refused),
     }
 }
@@ -113,12 +113,12 @@ fn carry_line<R: Wait>(rt: &R, stage: &Stage<'_>, hand: &mut Hand, act: &Act) ->
 fn submit_line<R: Wait>(
     rt: &R,
     stage: &Stage<'_>,
-    hand: &mut Hand,
+    actor: &mut Actor,
     places: &Vec<u32>,
 ) -> Result<(), Halt>
-    ensures same { (hand.new.client.board ≡ hand.old.client.board) × (hand.new.client.ring ≡ hand.old.client.ring) }
-    ensures carried { OnOk result (Carries stage.now.script.now (Submit places.now) hand.old hand.new) }
-    ensures stuck { IfErr result (IfStuck (λ p. RanOut stage.now.script.now stage.now.turns (Submit places.now) p hand.old hand.new)) }
+    ensures same { (actor.new.client.board ≡ actor.old.client.board) × (actor.new.client.ring ≡ actor.old.client.ring) }
+    ensures carried { OnOk result (Carries stage.now.script.now (Submit places.now) actor.old actor.new) }
+    ensures stuck { IfErr result (IfStuck (λ p. RanOut stage.now.script.now stage.now.turns (Submit places.now) p actor.old actor.new)) }
 {
     let Some(first) = places.first() else {
         return Err(Halt::Refused);
@@ -129,13 +129,13 @@ fn submit_line<R: Wait>(
         if stage.barrier.is_stopped() {
             return Err(Halt::Stopped);
         }
-        batch = match hand.try_submit(batch) {
+        batch = match actor.try_submit(batch) {
             Tried::Submitted => return Ok(()),
             Tried::Refused => return Err(Halt::Refused),
             Tried::Full(batch) => batch,
         };
-        let has_taken = hand.take_all(rt)?;
-        watch.wait(rt, stage, hand, has_taken)?;
+        let has_taken = actor.take_all(rt)?;
+        watch.wait(rt, stage, actor, has_taken)?;
     }
     Err(Halt::Stuck(*first))
 }
@@ -158,13 +158,13 @@ fn batch_of(stage: &Stage<'_>, places: &[u32]) -> Result<Batch, Halt>
 
 /// Waits for the reply to the entry at a place. At each try the completions that are there are taken, and between two tries it waits as
 /// `Watch::wait` does. No try is made once all rings are to stop.
-fn wait<R: Wait>(rt: &R, stage: &Stage<'_>, hand: &mut Hand, place: u32) -> Result<(), Halt>
-    requires { AreHomes stage.now.script.now stage.now.homes.now }
-    ensures same { (hand.new.client.board ≡ hand.old.client.board) × (hand.new.client.ring ≡ hand.old.client.ring) }
-    ensures carried { OnOk result (Carries stage.now.script.now (Wait place) hand.old hand.new) }
-    ensures stuck { IfErr result (IfStuck (λ p. RanOut stage.now.script.now stage.now.turns (Wait place) p hand.old hand.new)) }
+fn wait<R: Wait>(rt: &R, stage: &Stage<'_>, actor: &mut Actor, place: u32) -> Result<(), Halt>
+    requires { AreRequests stage.now.script.now stage.now.requests.now }
+    ensures same { (actor.new.client.board ≡ actor.old.client.board) × (actor.new.client.ring ≡ actor.old.client.ring) }
+    ensures carried { OnOk result (Carries stage.now.script.now (Wait place) actor.old actor.new) }
+    ensures stuck { IfErr result (IfStuck (λ p. RanOut stage.now.script.now stage.now.turns (Wait place) p actor.old actor.new)) }
 {
-    let Some(req) = home_of(stage.homes, place) else {
+    let Some(req) = request_for(stage.requests, place) else {
         return Err(Halt::Refused);
     };
     let mut watch = Watch::new();
@@ -172,11 +172,11 @@ fn wait<R: Wait>(rt: &R, stage: &Stage<'_>, hand: &mut Hand, place: u32) -> Resu
         if stage.barrier.is_stopped() {
             return Err(Halt::Stopped);
         }
-        let has_taken = hand.take_all(rt)?;
-        if hand.sees_reply(req) {
+        let has_taken = actor.take_all(rt)?;
+        if actor.sees_reply(req) {
             return Ok(());
         }
-        watch.wait(rt, stage, hand, has_taken)?;
+        watch.wait(rt, stage, actor, has_taken)?;
     }
     Err(Halt::Stuck(place))
 }

@@ -14,17 +14,17 @@ use std::alloc::{AllocError, Global};
 pub(crate) fn table_of(
     alloc: Global,
     script: &Script,
-    homes: &[Option<Req>],
+    requests: &[Option<Req>],
     taken: &[Completion],
     left: &[(Completion, bool)],
 ) -> Result<Table, RunFault>
     ensures lines { IfOk result (λ table. length table.lines.items ≡ length script.now.entries.items) }
-    ensures rows { IfOk result (λ table. AreRows script.now homes.now taken.now left.now table.lines.items) }
+    ensures rows { IfOk result (λ table. AreRows script.now requests.now taken.now left.now table.lines.items) }
     ensures unstuck { IfErr result IsUnstuck }
 {
     let mut lines = Vec::new(alloc);
     for place in 0..script.entries.len() {
-        let Some(row) = row_at(alloc, script, homes, taken, left, place)? else {
+        let Some(row) = row_at(alloc, script, requests, taken, left, place)? else {
             return Err(RunFault::Shared);
         };
         lines.push(row)?;
@@ -36,18 +36,18 @@ pub(crate) fn table_of(
 fn row_at(
     alloc: Global,
     script: &Script,
-    homes: &[Option<Req>],
+    requests: &[Option<Req>],
     taken: &[Completion],
     left: &[(Completion, bool)],
     place: usize,
 ) -> Result<Option<(i32, Vec<u8>)>, AllocError>
-    ensures { IfOk result (λ found. IfSome found (IsRow script.now homes.now taken.now left.now place)) }
+    ensures { IfOk result (λ found. IfSome found (IsRow script.now requests.now taken.now left.now place)) }
 {
-    if place >= script.entries.len() || place >= homes.len() {
+    if place >= script.entries.len() || place >= requests.len() {
         return Ok(None);
     }
     let entry = &script.entries[place];
-    let Some(req) = homes[place] else {
+    let Some(req) = requests[place] else {
         return Ok(None);
     };
     let Some(completion) = completion_of(req, taken, left) else {

@@ -5,14 +5,14 @@ ghost use Rattle.steps.specs.declared.view.Role.TheVariants.{Poller};
 ghost use Rattle.work.specs.Passes.{Pass, seen_of};
 ghost use Rattle.board.specs.Reports.{IsReport};
 ghost use Rattle.runtime.specs.{AreClients, submitter_of, CameToRest};
-ghost use Rattle.script.specs.{AreHomes, rows_of, IsTableOf};
+ghost use Rattle.script.specs.{AreRequests, rows_of, IsTableOf};
 ghost use Rattle.script_run.specs.{AreNew, client_of, taken_by, AreClockLines, IsAtLine, AreStarting, IsPlayed, IsStartedFor, HasRun, HasLabel, IsStuck, IsStuckOn, IfStuckOn, IsUnstuck, IsLowest};
 ghost use Rattle.script_run.specs.declared.lines.Halt.TheVariants.{Stuck};
 
+use crate::actor::Actor;
 use crate::barrier::Barrier;
 use crate::clock::{ClockLine, Ended, LineClock, Progress, lines_of};
 use crate::fault::RunFault;
-use crate::hand::Hand;
 use crate::lines::Halt;
 use crate::rows::table_of;
 use crate::stage::Stage;
@@ -21,7 +21,7 @@ use board::{Completion, Report, RingShape, Shape};
 use controls::Turnstile;
 use history::Req;
 use runtime::{Client, Rested, Runtime, join_all, join_at_rest, start};
-use script::{Script, Table, homes_of};
+use script::{Script, Table, requests_of};
 use std::alloc::{AllocError, Global};
 use std::sync::{Arc, Wait};
 use std::thread::Threads;
@@ -49,17 +49,17 @@ pub fn run_script<
     ensures run { IfOk result (λ table. HasRun script.now workers table.lines.items) }
     ensures stuck { IfErr result (IfStuckOn (IsStuck script.now workers turns)) }
 {
-    let homes = homes_of(alloc, script)?;
+    let requests = requests_of(alloc, script)?;
     let shape = shape_of(alloc, script, workers)?;
     let room = room_of(alloc, script.rings.len())?;
-    let lines = lines_of(alloc, script, homes.as_slice())?;
-    let (clock, progress) = clock_of(alloc, script, homes.as_slice(), turns)?;
+    let lines = lines_of(alloc, script, requests.as_slice())?;
+    let (clock, progress) = clock_of(alloc, script, requests.as_slice(), turns)?;
     let (runtime, clients) = start(*rt, alloc, &shape, IDLE, turnstile, clock)?;
     let barrier = Barrier::new(script.rings.len() as u64, progress);
     let stage = Stage {
         alloc,
         script,
-        homes: homes.as_slice(),
+        requests: requests.as_slice(),
         turns,
         barrier: &barrier,
     };
@@ -70,37 +70,37 @@ pub fn run_script<
 fn clock_of(
     alloc: Global,
     script: &Script,
-    homes: &[Option<Req>],
+    requests: &[Option<Req>],
     turns: u32,
 ) -> Result<(LineClock, Arc<Progress>), RunFault>
-    requires { AreHomes script.now homes.now }
+    requires { AreRequests script.now requests.now }
     ensures clock { IfOk result (λ t. IsAtLine t.0.lines.items t.0.next t.0.tries t.0.most t.0.is_stuck []) }
     ensures unstuck { IfErr result IsUnstuck }
 {
-    let lines = lines_of(alloc, script, homes)?;
+    let lines = lines_of(alloc, script, requests)?;
     let made = LineClock::new(alloc, lines, turns)?;
     Ok(made)
 }
 
-/// Empty lists with room for the hands of all rings, and for their clients, so that once the threads have started no list of them
+/// Empty lists with room for the actors of all rings, and for their clients, so that once the threads have started no list of them
 /// needs memory.
 #[derive(Drop)]
 struct Room {
-    hands: Vec<Hand>,
+    actors: Vec<Actor>,
     clients: Vec<Client>,
 }
 
-/// Room for the hands and clients of so many rings.
+/// Room for the actors and clients of so many rings.
 fn room_of(alloc: Global, rings: usize) -> Result<Room, AllocError>
-    ensures hands { IfOk result (λ r. (r.hands.items ≡ []) × (rings ≤ vec_capacity r.hands)) }
+    ensures actors { IfOk result (λ r. (r.actors.items ≡ []) × (rings ≤ vec_capacity r.actors)) }
     ensures clients { IfOk result (λ r. (r.clients.items ≡ []) × (rings ≤ vec_capacity r.clients)) }
 {
-    let hands = Vec::with_capacity(alloc, rings)?;
+    let actors = Vec::with_capacity(alloc, rings)?;
     let clients = Vec::with_capacity(alloc, rings)?;
-    Ok(Room { hands, clients })
+    Ok(Room { actors, clients })
 }
 
-/// Carries all lines out on a runtime that was started for the script, and gives the table. There is room for its hands and clients.
+/// Carries all lines out on a runtime that was started for the script, and gives the table. There is room for its actors and clients.
 fn run_lines<R: Threads + Wait + Sync>(
     rt: &R,
     stage: &Stage<'_>,
@@ -109,9 +109,9 @@ fn run_lines<R: Threads + Wait + Sync>(
     room: Room,
     lines: &[ClockLine],
 ) -> Result<Table, RunFault>
-    requires homes { AreHomes stage.now.script.now stage.now.homes.now }
+    requires requests { AreRequests stage.now.script.now stage.now.requests.now }
     requires started { (w : ℕ) × IsStartedFor stage.now.script.now w runtime.board clients.items }
-    requires hands { (room.hands.items ≡ []) × (length clients.items ≤ vec_capacity room.hands) }
+    requires actors { (room.actors.items ≡ []) × (length clients.items ≤ vec_capacity room.actors) }
     requires clients { (room.clients.items ≡ []) × (length clients.items ≤ vec_capacity room.clients) }
     requires lines { AreClockLines stage.now.script.now stage.now.script.now.clock.items lines.now }
     ensures table { IfOk result (λ table. IsTableOf stage.now.script.now (rows_of table)) }
@@ -119,15 +119,15 @@ fn run_lines<R: Threads + Wait + Sync>(
     ensures stuck { (w : ℕ) → IsStartedFor stage.now.script.now w runtime.board clients.items → IfErr result (IfStuckOn (IsStuck stage.now.script.now w stage.now.turns)) }
 {
     let Room {
-        hands,
+        actors,
         clients: back,
     } = room;
-    let hands = hands_of(stage.alloc, clients, hands);
-    let (taken, report) = play(rt, stage, runtime, hands, back, lines)?;
+    let actors = actors_of(stage.alloc, clients, actors);
+    let (taken, report) = play(rt, stage, runtime, actors, back, lines)?;
     table_of(
         stage.alloc,
         stage.script,
-        stage.homes,
+        stage.requests,
         taken.as_slice(),
         report.lines(),
     )
@@ -151,19 +151,19 @@ fn shape_of(alloc: Global, script: &Script, workers: u32) -> Result<Shape, Alloc
     })
 }
 
-/// The hands of these clients, in order. There is room for them.
-fn hands_of(alloc: Global, mut clients: Vec<Client>, mut hands: Vec<Hand>) -> Vec<Hand>
-    requires none { hands.items ≡ [] }
-    requires room { length clients.items ≤ vec_capacity hands }
+/// The actors of these clients, in order. There is room for them.
+fn actors_of(alloc: Global, mut clients: Vec<Client>, mut actors: Vec<Actor>) -> Vec<Actor>
+    requires none { actors.items ≡ [] }
+    requires room { length clients.items ≤ vec_capacity actors }
     ensures clients { map client_of result.items ≡ clients.items }
     ensures new { AreNew result.items }
     ensures room { length result.items ≤ vec_capacity result }
 {
     clients.reverse();
     while let Some(client) = clients.pop() {
-        hands.push_reserved(Hand::new(alloc, client));
+        actors.push_reserved(Actor::new(alloc, client));
     }
-    hands
+    actors
 }
 
 /// Carries all lines out, and ends the runtime: the completions that the clients took, and the report of all others. These are the
@@ -172,21 +172,21 @@ fn play<R: Threads + Wait + Sync>(
     rt: &R,
     stage: &Stage<'_>,
     runtime: Runtime<LineClock>,
-    hands: Vec<Hand>,
+    actors: Vec<Actor>,
     clients: Vec<Client>,
     lines: &[ClockLine],
 ) -> Result<(Vec<Completion>, Report), RunFault>
-    requires homes { AreHomes stage.now.script.now stage.now.homes.now }
-    requires hands { AreStarting stage.now.script.now runtime.board hands.items }
-    requires room { length hands.items ≤ vec_capacity hands }
-    requires clients { (clients.items ≡ []) × (length hands.items ≤ vec_capacity clients) }
+    requires requests { AreRequests stage.now.script.now stage.now.requests.now }
+    requires actors { AreStarting stage.now.script.now runtime.board actors.items }
+    requires room { length actors.items ≤ vec_capacity actors }
+    requires clients { (clients.items ≡ []) × (length actors.items ≤ vec_capacity clients) }
     requires lines { AreClockLines stage.now.script.now stage.now.script.now.clock.items lines.now }
     ensures played { IfOk result (λ t. IsPlayed stage.now.script.now runtime.board t.0.items t.1) }
     ensures stuck { IfErr result (IfStuckOn (IsStuckOn stage.now.script.now stage.now.turns runtime.board)) }
 {
-    let hands = carry_all(rt, stage, hands);
-    let halt = halt_of(hands.as_slice());
-    let (clients, taken) = parts_of(stage.alloc, hands, clients);
+    let actors = carry_all(rt, stage, actors);
+    let halt = halt_of(actors.as_slice());
+    let (clients, taken) = parts_of(stage.alloc, actors, clients);
     if let Some(halt) = halt {
         end_at_once(rt, stage.alloc, runtime, clients);
         return Err(fault_of(stage, halt));
@@ -259,38 +259,38 @@ fn told_of(first: Option<Halt>, second: Option<Halt>) -> Option<Halt>
     }
 }
 
-/// The halt that is told of these hands, if one has any.
-fn halt_of(hands: &[Hand]) -> Option<Halt>
-    ensures none { result ≡ None → All (λ h. h.halt ≡ None) hands.now }
-    ensures stuck { (p : ℕ) → result ≡ Some (Stuck p) → IsLowest hands.now (length hands.now) p }
+/// The halt that is told of these actors, if one has any.
+fn halt_of(actors: &[Actor]) -> Option<Halt>
+    ensures none { result ≡ None → All (λ h. h.halt ≡ None) actors.now }
+    ensures stuck { (p : ℕ) → result ≡ Some (Stuck p) → IsLowest actors.now (length actors.now) p }
 {
     let mut halt = None;
-    for hand in hands {
-        halt = told_of(halt, hand.halt);
+    for actor in actors {
+        halt = told_of(halt, actor.halt);
     }
     halt
 }
 
-/// What these hands come to: their clients, for which there is room, and all that they took, unless there is no memory for it.
+/// What these actors come to: their clients, for which there is room, and all that they took, unless there is no memory for it.
 fn parts_of(
     alloc: Global,
-    mut hands: Vec<Hand>,
+    mut actors: Vec<Actor>,
     mut clients: Vec<Client>,
 ) -> (Vec<Client>, Option<Vec<Completion>>)
     requires none { clients.items ≡ [] }
-    requires room { length hands.items ≤ vec_capacity clients }
-    ensures clients { result.0.items ≡ map client_of hands.items }
-    ensures taken { IfSome result.1 (λ v. v.items ≡ taken_by hands.items) }
+    requires room { length actors.items ≤ vec_capacity clients }
+    ensures clients { result.0.items ≡ map client_of actors.items }
+    ensures taken { IfSome result.1 (λ v. v.items ≡ taken_by actors.items) }
 {
-    hands.reverse();
+    actors.reverse();
     let mut all = Vec::new(alloc);
     let mut is_short = false;
-    while let Some(hand) = hands.pop() {
-        let Hand {
+    while let Some(actor) = actors.pop() {
+        let Actor {
             client,
             mut taken,
             ..
-        } = hand;
+        } = actor;
         clients.push_reserved(client);
         if all.append(&mut taken).is_err() {
             is_short = true;

@@ -11,17 +11,17 @@ use std::alloc::Global;
 pub(crate) struct Stage<'a> {
     pub alloc: Global,
     pub script: &'a Script,
-    pub homes: &'a [Option<Req>],
+    pub requests: &'a [Option<Req>],
     pub turns: u32,
     pub barrier: &'a Barrier,
 }
 
 /// The request of the entry at a place.
-pub(crate) fn home_of(homes: &[Option<Req>], place: u32) -> Option<Req>
-    ensures { IfSome result (λ r. slice_get homes.now place ≡ Some (Some r)) }
+pub(crate) fn request_for(requests: &[Option<Req>], place: u32) -> Option<Req>
+    ensures { IfSome result (λ r. slice_get requests.now place ≡ Some (Some r)) }
 {
-    match homes.get(place as usize) {
-        Some(home) => *home,
+    match requests.get(place as usize) {
+        Some(request) => *request,
         None => None,
     }
 }

@@ -1,9 +1,9 @@
 //! The threads of the rings.
 ghost use Rattle.std.specs.Prelude.{◌≡◌, ◌≤◌, length, vec_capacity, IfOk, IfErr};
-ghost use Rattle.script.specs.Homes.{AreHomes};
+ghost use Rattle.script.specs.Requests.{AreRequests};
 ghost use Rattle.script_run.specs.Tries.{AllCarriedOut, CarriedOut};
 
-use crate::hand::Hand;
+use crate::actor::Actor;
 use crate::lines::carry_out;
 use crate::stage::Stage;
 use script::Script;
@@ -12,56 +12,56 @@ use std::sync::Wait;
 use std::thread;
 use std::thread::{Promise, PromisedHandle, Scope, Threads};
 
-/// The hand that a ring's thread gives back came of this one, by the lines of this script, each tried so often.
+/// The actor that a ring's thread gives back came of this one, by the lines of this script, each tried so often.
 #[derive(Drop)]
-struct Carried(Snapshot<Script>, Snapshot<u32>, Snapshot<Hand>);
+struct Carried(Snapshot<Script>, Snapshot<u32>, Snapshot<Actor>);
 
-impl Promise<Hand> for Carried {
+impl Promise<Actor> for Carried {
     ghost use Rattle.script_run.specs.Tries.{CarriedOut};
 
     ghost kept_by = { λ p r. CarriedOut p.0.value p.1.value p.2.value r };
 }
 
 /// Carries the lines of a client out in a thread of its own, which is given the stage's parts: it takes no struct of references. Where
-/// that is refused all rings are told to stop, and the hand comes back, stopped.
+/// that is refused all rings are told to stop, and the actor comes back, stopped.
 fn start<'s, E, R: Threads + Wait + Sync>(
     scope: &'s Scope<'s, E>,
     rt: &'s R,
     stage: &Stage<'s>,
-    hand: Hand,
-) -> Result<PromisedHandle<Hand, Carried>, Hand>
-    requires { AreHomes stage.now.script.now stage.now.homes.now }
-    ensures thread { IfOk result (λ t. (t.promise.0.value ≡ stage.now.script.now) × (t.promise.1.value ≡ stage.now.turns) × (t.promise.2.value ≡ hand)) }
-    ensures refused { IfErr result (λ h. CarriedOut stage.now.script.now stage.now.turns hand h) }
+    actor: Actor,
+) -> Result<PromisedHandle<Actor, Carried>, Actor>
+    requires { AreRequests stage.now.script.now stage.now.requests.now }
+    ensures thread { IfOk result (λ t. (t.promise.0.value ≡ stage.now.script.now) × (t.promise.1.value ≡ stage.now.turns) × (t.promise.2.value ≡ actor)) }
+    ensures refused { IfErr result (λ h. CarriedOut stage.now.script.now stage.now.turns actor h) }
 {
     let Stage {
         alloc,
         script,
-        homes,
+        requests,
         turns,
         barrier,
     } = *stage;
     let promise = Carried(
         Snapshot::of(script),
         Snapshot::of(&turns),
-        Snapshot::of(&hand),
+        Snapshot::of(&actor),
     );
     match scope.spawn_with(
         promise,
-        move || -> Hand
-            requires { AreHomes script.now homes.now }
-            ensures { CarriedOut script.entry.now turns hand result }
+        move || -> Actor
+            requires { AreRequests script.now requests.now }
+            ensures { CarriedOut script.entry.now turns actor result }
         {
             let stage = Stage {
                 alloc,
                 script,
-                homes,
+                requests,
                 turns,
                 barrier,
             };
-            let hand = carry_out(rt, &stage, hand);
+            let actor = carry_out(rt, &stage, actor);
             barrier.pulse.end();
-            hand
+            actor
         },
     ) {
         Ok(thread) => Ok(thread),
@@ -77,26 +77,26 @@ fn carry_from<'s, E, R: Threads + Wait + Sync>(
     scope: &'s Scope<'s, E>,
     rt: &'s R,
     stage: &Stage<'s>,
-    mut hands: Vec<Hand>,
-) -> Vec<Hand>
-    requires homes { AreHomes stage.now.script.now stage.now.homes.now }
-    requires room { length hands.items ≤ vec_capacity hands }
-    ensures carried { AllCarriedOut stage.now.script.now stage.now.turns hands.items result.items }
-    ensures room { vec_capacity result ≡ vec_capacity hands }
+    mut actors: Vec<Actor>,
+) -> Vec<Actor>
+    requires requests { AreRequests stage.now.script.now stage.now.requests.now }
+    requires room { length actors.items ≤ vec_capacity actors }
+    ensures carried { AllCarriedOut stage.now.script.now stage.now.turns actors.items result.items }
+    ensures room { vec_capacity result ≡ vec_capacity actors }
 {
-    let Some(hand) = hands.pop() else {
-        return hands;
+    let Some(actor) = actors.pop() else {
+        return actors;
     };
-    match start(scope, rt, stage, hand) {
+    match start(scope, rt, stage, actor) {
         Ok(thread) => {
-            let mut hands = carry_from(scope, rt, stage, hands);
-            hands.push_reserved(thread.join(rt));
-            hands
+            let mut actors = carry_from(scope, rt, stage, actors);
+            actors.push_reserved(thread.join(rt));
+            actors
         }
-        Err(hand) => {
-            let mut hands = carry_from(scope, rt, stage, hands);
-            hands.push_reserved(hand);
-            hands
+        Err(actor) => {
+            let mut actors = carry_from(scope, rt, stage, actors);
+            actors.push_reserved(actor);
+            actors
         }
     }
 }
@@ -106,35 +106,35 @@ fn carry_from<'s, E, R: Threads + Wait + Sync>(
 pub(crate) fn carry_all<R: Threads + Wait + Sync>(
     rt: &R,
     stage: &Stage<'_>,
-    hands: Vec<Hand>,
-) -> Vec<Hand>
-    requires homes { AreHomes stage.now.script.now stage.now.homes.now }
-    requires room { length hands.items ≤ vec_capacity hands }
-    ensures { AllCarriedOut stage.now.script.now stage.now.turns hands.items result.items }
+    actors: Vec<Actor>,
+) -> Vec<Actor>
+    requires requests { AreRequests stage.now.script.now stage.now.requests.now }
+    requires room { length actors.items ≤ vec_capacity actors }
+    ensures { AllCarriedOut stage.now.script.now stage.now.turns actors.items result.items }
 {
     let Stage {
         alloc,
         script,
-        homes,
+        requests,
         turns,
         barrier,
     } = *stage;
     thread::scope(
         thread::scope_env(),
         rt,
-        move |scope| -> Vec<Hand>
-            requires homes { AreHomes script.now homes.now }
-            requires room { length hands.items ≤ vec_capacity hands }
-            ensures { AllCarriedOut script.entry.now turns hands.items result.items }
+        move |scope| -> Vec<Actor>
+            requires requests { AreRequests script.now requests.now }
+            requires room { length actors.items ≤ vec_capacity actors }
+            ensures { AllCarriedOut script.entry.now turns actors.items result.items }
         {
             let stage = Stage {
                 alloc,
                 script,
-                homes,
+                requests,
                 turns,
                 barrier,
             };
-            carry_from(scope, rt, &stage, hands)
+            carry_from(scope, rt, &stage, actors)
         },
     )
 }

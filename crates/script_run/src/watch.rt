@@ -1,7 +1,7 @@
 //! How a thread waits for a run to go on, and how it finds that it can't.
-ghost use Rattle.script_run.specs.Hands.{Went};
+ghost use Rattle.script_run.specs.Actors.{Went};
 
-use crate::hand::Hand;
+use crate::actor::Actor;
 use crate::stage::Stage;
 use board::Phase;
 use std::alloc::AllocError;
@@ -29,8 +29,8 @@ const NAPS: u32 = 1024;
 const LOOKS: u32 = 4;
 
 /// The run's mark, where its workers have nothing to do.
-fn mark_of(stage: &Stage<'_>, hand: &Hand) -> Option<u64> {
-    let done = hand.client.rest()?;
+fn mark_of(stage: &Stage<'_>, actor: &Actor) -> Option<u64> {
+    let done = actor.client.rest()?;
     Some(stage.barrier.pulse.mark(done))
 }
 
@@ -80,14 +80,14 @@ impl Watch {
     }
 
     /// Whether no request of the script can go on.
-    fn are_settled(&self, stage: &Stage<'_>, hand: &mut Hand) -> bool
-        ensures { Went hand.old hand.new }
+    fn are_settled(&self, stage: &Stage<'_>, actor: &mut Actor) -> bool
+        ensures { Went actor.old actor.new }
     {
-        for home in stage.homes {
-            let Some(req) = home else {
+        for request in stage.requests {
+            let Some(req) = request else {
                 continue;
             };
-            let phase = hand.client.look(*req);
+            let phase = actor.client.look(*req);
             if !self.is_settled(stage, phase) {
                 return false;
             }
@@ -97,10 +97,10 @@ impl Watch {
 
     /// Looks at the run where nothing was there to be taken. Whether it stands where it stood at the look before, and nothing can go on.
     /// While the workers have something to do, or the poller is in a turn, that can't be told.
-    fn look(&mut self, stage: &Stage<'_>, hand: &mut Hand) -> bool
-        ensures { Went hand.old hand.new }
+    fn look(&mut self, stage: &Stage<'_>, actor: &mut Actor) -> bool
+        ensures { Went actor.old actor.new }
     {
-        let mark = mark_of(stage, hand);
+        let mark = mark_of(stage, actor);
         if mark.is_none() {
             return false;
         }
@@ -114,7 +114,7 @@ impl Watch {
         if !self.has_ticked(stage) {
             return false;
         }
-        if !self.are_settled(stage, hand) || mark_of(stage, hand) != mark {
+        if !self.are_settled(stage, actor) || mark_of(stage, actor) != mark {
             return false;
         }
         self.looks = self.looks.saturating_add(1);
@@ -122,10 +122,10 @@ impl Watch {
     }
 
     /// Looks at the run for a ring that waits, and notes where the run is at rest: each ring has ended, or waits in vain.
-    fn look_around<R: Wait>(&mut self, rt: &R, stage: &Stage<'_>, hand: &mut Hand)
-        ensures { Went hand.old hand.new }
+    fn look_around<R: Wait>(&mut self, rt: &R, stage: &Stage<'_>, actor: &mut Actor)
+        ensures { Went actor.old actor.new }
     {
-        if !self.look(stage, hand) {
+        if !self.look(stage, actor) {
             return;
         }
         let Some(mark) = self.mark else {
@@ -137,7 +137,7 @@ impl Watch {
         if self.looks < LOOKS || !stage.barrier.pulse.have_given_up(rt, mark) {
             return;
         }
-        self.is_at_rest = mark_of(stage, hand) == self.mark;
+        self.is_at_rest = mark_of(stage, actor) == self.mark;
     }
 
     /// Begins again, since something went on.
@@ -159,12 +159,17 @@ impl Watch {
     }
 
     /// Sleeps until a completion of the ring is posted, for a millisecond at most. One that is there it takes.
-    fn nap<R: Wait>(&mut self, rt: &R, stage: &Stage<'_>, hand: &mut Hand) -> Result<(), AllocError>
-        ensures { Went hand.old hand.new }
+    fn nap<R: Wait>(
+        &mut self,
+        rt: &R,
+        stage: &Stage<'_>,
+        actor: &mut Actor,
+    ) -> Result<(), AllocError>
+        ensures { Went actor.old actor.new }
     {
         let most = Duration::from_micros(NAP << self.naps.min(4));
         self.naps = self.naps.saturating_add(1);
-        if hand.take_within(rt, most)? {
+        if actor.take_within(rt, most)? {
             self.begin_again(stage);
         }
         Ok(())
@@ -176,10 +181,10 @@ impl Watch {
         &mut self,
         rt: &R,
         stage: &Stage<'_>,
-        hand: &mut Hand,
+        actor: &mut Actor,
         has_taken: bool,
     ) -> Result<(), AllocError>
-        ensures { Went hand.old hand.new }
+        ensures { Went actor.old actor.new }
     {
         if has_taken {
             self.begin_again(stage);
@@ -188,7 +193,7 @@ impl Watch {
         if self.is_at_rest || self.is_quick() {
             return Ok(());
         }
-        self.look_around(rt, stage, hand);
+        self.look_around(rt, stage, actor);
         if self.is_at_rest {
             return Ok(());
         }
@@ -196,6 +201,6 @@ impl Watch {
             thread::yield_now();
             return Ok(());
         }
-        self.nap(rt, stage, hand)
+        self.nap(rt, stage, actor)
     }
 }

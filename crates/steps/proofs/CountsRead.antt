@@ -1,13 +1,13 @@
 -- What the note of a count tells of its request, where that was not reaped since.
-use Rattle.steps.proofs.Common.{Entry, Event, IsPlaced, IsReaped, Layout, Legal, Line, List, None, NotesTell, Option, Req, Some, Submission, before_in, count_at, count_of, events_of, is_timeout, noted, phase, placed_from, refl, request_at, setup_of, submission, true, ℕ, ◌++◌, ◌≡◌}
+use Rattle.steps.proofs.Common.{Entry, Event, IsPlaced, IsReaped, Layout, Legal, Line, List, None, NotesTell, Option, Req, Some, Submitted, before_in, count_at, count_of, events_of, is_timeout, noted, phase, placed_from, refl, request_at, setup_of, submission, true, ℕ, ◌++◌, ◌≡◌}
 use Rattle.steps.proofs.FreeCells.{reaped_later}
 
-handed_in : (before after : Option Submission) (e : Entry) → placed_from before after ≡ Some e → (y : Submission) × (after ≡ Some y)
+handed_in : (before after : Option Submitted) (e : Entry) → placed_from before after ≡ Some e → (y : Submitted) × (after ≡ Some y)
 handed_in before None e is = absurd (cc)
 handed_in before (Some y) e is = (y, refl)
 
 -- what is placed was handed in
-pub placed_handed : (h : List Event) (q : Req) (e : Entry) → IsPlaced h q e → (y : Submission) × (submission h q ≡ Some y)
+pub placed_handed : (h : List Event) (q : Req) (e : Entry) → IsPlaced h q e → (y : Submitted) × (submission h q ≡ Some y)
 placed_handed h q e is = handed_in (before_in h q) (submission h q) e is
 
 -- the journal j was seen where the note was loaded, and later the request was not reaped yet

@@ -1,6 +1,6 @@
 -- What the facts of a cell say of a request that was reaped: its outcome, and once they are another one's that its whole chain has replied.
 use Rattle.claim.specs.Facts.{Facts, bit, packed_facts}
-use Rattle.steps.proofs.Common.{Bool, Cause, Did, Entry, FactsLeft, FactsTell, IsCell, IsChainDone, IsFree, IsPlaced, IsReaped, Layout, Legal, Lent, Line, List, MayChange, Noted, Orderly, Phase, Reap, Req, Setup, Some, Submission, Submit, [], after_reap, ap, arith, bool_cases, cells_in, changed, concerns, cond, counted, dite, eq-eqb, events_of, facts_at, facts_of, fails, false, lent, may_change, ne_eqb, noted, outcome_of, phase, place_of, reaped, refl, replied, reply_in, request_at, ring_of, same, same_true, submission, submission_some, subst, suc, suc-mul, sym, true, unborn, unchanged, zero, ℕ, ℕ_discrete, ℤ, ⊎_elim, ◌%◌, ◌*◌, ◌+◌, ◌<◌, ◌∙◌, ◌∷◌, ◌≡◌, ◌≢◌}
+use Rattle.steps.proofs.Common.{Bool, Cause, Did, Entry, FactsLeft, FactsTell, IsCell, IsChainDone, IsFree, IsPlaced, IsReaped, Layout, Legal, Lent, Line, List, MayChange, Noted, Orderly, Phase, Reap, Req, Setup, Some, Submitted, Submit, [], after_reap, ap, arith, bool_cases, cells_in, changed, concerns, cond, counted, dite, eq-eqb, events_of, facts_at, facts_of, fails, false, lent, may_change, ne_eqb, noted, outcome_of, phase, place_of, reaped, refl, replied, reply_in, request_at, ring_of, same, same_true, submission, submission_some, subst, suc, suc-mul, sym, true, unborn, unchanged, zero, ℕ, ℕ_discrete, ℤ, ⊎_elim, ◌%◌, ◌*◌, ◌+◌, ◌<◌, ◌∙◌, ◌∷◌, ◌≡◌, ◌≢◌}
 use Rattle.steps.proofs.JournalGrowth.{was_reaped}
 use Rattle.steps.proofs.FreeCells.{reaped_as}
 use Rattle.steps.proofs.NotesKept.{reaped_born, done_on, earlier_gone, earlier_reaped, IsStored, IsFresh, IsClosing, stored_by, placed_before, notes_are}
@@ -23,14 +23,14 @@ module _ (L : Layout) (s : Setup) (x : ℕ) (inside : IsCell L.cells x) (g : ℕ
   r = request_at K x g
 
   -- a line that leaves the cell's facts, and where the request stands
-  carry : (l : Line) (j : List Line) (y : Submission) (d : Entry) → noted (l ∷ j) (facts_at x) ≡ noted j (facts_at x) → phase (events_of (l ∷ j)) r ≡ phase (events_of j) r → (IsChainDone (events_of j) r → IsChainDone (events_of (l ∷ j)) r) → FactsLeft K j x g y d → FactsLeft K (l ∷ j) x g y d
+  carry : (l : Line) (j : List Line) (y : Submitted) (d : Entry) → noted (l ∷ j) (facts_at x) ≡ noted j (facts_at x) → phase (events_of (l ∷ j)) r ≡ phase (events_of j) r → (IsChainDone (events_of j) r → IsChainDone (events_of (l ∷ j)) r) → FactsLeft K j x g y d → FactsLeft K (l ∷ j) x g y d
   carry l j y d stays still on n = record {
     outcome = λ res is gen. stays ∙ n.outcome res (sym (ap reply_in still) ∙ is) (ap (λ (m : ℕ). m % 16777216) (sym stays) ∙ gen);
     done = λ ne. on (n.done (λ e. ne (ap (λ (m : ℕ). m % 16777216) stays ∙ e)));
   }
 
   -- the Reap of the request itself, before which its outcome was noted
-  at_reap : (q : Req) (j : List Line) (y : Submission) (d : Entry) → same q r ≡ true → Legal s (Reap q ∷ events_of j) → Orderly L j → lent j q ≡ true → submission (events_of j) r ≡ Some y → IsPlaced (events_of j) r d → FactsLeft K (Did (Reap q) ∷ j) x g y d
+  at_reap : (q : Req) (j : List Line) (y : Submitted) (d : Entry) → same q r ≡ true → Legal s (Reap q ∷ events_of j) → Orderly L j → lent j q ≡ true → submission (events_of j) r ≡ Some y → IsPlaced (events_of j) r d → FactsLeft K (Did (Reap q) ∷ j) x g y d
   at_reap q j y d w h o taken is p =
       let m = h.0.1 in let one : q ≡ r = same_true q r w in let was : phase (events_of j) r ≡ replied m.0 m.1 = subst (λ (k : Req). phase (events_of j) k ≡ replied m.0 m.1) one m.2 in
       let now : phase (Reap q ∷ events_of j) r ≡ reaped m.0 m.1 = changed s (Reap q) (events_of j) r w ∙ ap after_reap was in
@@ -41,7 +41,7 @@ module _ (L : Layout) (s : Setup) (x : ℕ) (inside : IsCell L.cells x) (g : ℕ
       }
 
   -- the facts of another request of the cell
-  other_facts : (l : Line) (j : List Line) (y : Submission) (d : Entry) (n m : ℕ) → noted (l ∷ j) (facts_at x) ≡ n → n % 16777216 ≡ m → ¬ (m ≡ g) → IsChainDone (events_of (l ∷ j)) r → FactsLeft K (l ∷ j) x g y d
+  other_facts : (l : Line) (j : List Line) (y : Submitted) (d : Entry) (n m : ℕ) → noted (l ∷ j) (facts_at x) ≡ n → n % 16777216 ≡ m → ¬ (m ≡ g) → IsChainDone (events_of (l ∷ j)) r → FactsLeft K (l ∷ j) x g y d
   other_facts l j y d n m stored gen ne done' = record {
     outcome = λ res k z. absurd (ne (sym gen ∙ (ap (λ (i : ℕ). i % 16777216) (sym stored) ∙ z)));
     done = λ _. done';
@@ -69,7 +69,7 @@ module _ (L : Layout) (s : Setup) (x : ℕ) (inside : IsCell L.cells x) (g : ℕ
       (λ (w : lent j (request_at K x m) ≡ false). ap (λ (z : ℕ). z % 16777216) (n.facts w) ∙ facts) (bool_cases (lent j (request_at K x m)))
 
   -- a store of the facts of the cell's request of generation m
-  at_store : (q : Req) (word value : ℕ) (j : List Line) (y : Submission) (d : Entry) → Legal s (events_of j) → Orderly L j → IsStored L s j q word value → IsReaped (phase (events_of j) r) → FactsLeft K j x g y d → FactsLeft K (Lent q word value ∷ j) x g y d
+  at_store : (q : Req) (word value : ℕ) (j : List Line) (y : Submitted) (d : Entry) → Legal s (events_of j) → Orderly L j → IsStored L s j q word value → IsReaped (phase (events_of j) r) → FactsLeft K j x g y d → FactsLeft K (Lent q word value ∷ j) x g y d
   at_store q word value j y d h o st gone n = dite (ℕ_discrete st.cell x)
       (λ same_cell. let here : request_at K x st.gen ≡ q = subst (λ (m : ℕ). request_at K m st.gen ≡ q) same_cell st.is_in.1 in
       let stored : noted (Lent q word value ∷ j) (facts_at x) ≡ value = ap (λ b. cond b value (noted j (facts_at x))) (eq-eqb word (facts_at x) (st.word_is ∙ ap facts_at same_cell)) in ⊎_elim
@@ -86,11 +86,11 @@ module _ (L : Layout) (s : Setup) (x : ℕ) (inside : IsCell L.cells x) (g : ℕ
       (λ ne. carry (Lent q word value) j y d (ap (λ b. cond b value (noted j (facts_at x))) (ne_eqb word (facts_at x) (let e = st.word_is in λ z. ne (omega arith)))) refl (λ z. z) n)
 
   -- the facts of a request that was reaped
-  facts_are : (j : List Line) → Legal s (events_of j) → Orderly L j → (y : Submission) (d : Entry) → submission (events_of j) r ≡ Some y → IsPlaced (events_of j) r d → IsReaped (phase (events_of j) r) → FactsLeft K j x g y d
+  facts_are : (j : List Line) → Legal s (events_of j) → Orderly L j → (y : Submitted) (d : Entry) → submission (events_of j) r ≡ Some y → IsPlaced (events_of j) r d → IsReaped (phase (events_of j) r) → FactsLeft K j x g y d
   facts_are [] h o y d is p gone = absurd gone
   facts_are (Did (Submit q e bytes last) ∷ j) h o y d is p gone = let l : Line = Did (Submit q e bytes last) in ⊎_elim
       (λ (w : same q r ≡ true). absurd (subst IsReaped (changed s (Submit q e bytes last) (events_of j) r w) gone))
-      (λ (w : same q r ≡ false). (let z : Submission = record { entry = e; bytes = bytes; last = last } in let was : submission (events_of j) r ≡ Some y = sym (ap (λ b. cond b (Some z) (submission (events_of j) r)) w) ∙ is in
+      (λ (w : same q r ≡ false). (let z : Submitted = record { entry = e; bytes = bytes; last = last } in let was : submission (events_of j) r ≡ Some y = sym (ap (λ b. cond b (Some z) (submission (events_of j) r)) w) ∙ is in
       let still = unchanged s (Submit q e bytes last) (events_of j) r w in let gone' = subst IsReaped still gone in
       carry l j y d refl still (done_on L s l j r h gone') (facts_are j h.1 o.1 y d was (placed_before L s x inside g (Submit q e bytes last) (events_of j) y d h was p) gone'))) (bool_cases (same q r))
   facts_are (Did (Reap q) ∷ j) h o y d is p gone = let l : Line = Did (Reap q) in ⊎_elim

@@ -1,7 +1,7 @@
 -- What the facts of a cell tell of its request.
 use Rattle.claim.specs.Facts.{Facts, bit, packed_facts, fits_facts}
 use Rattle.history.proofs.Requests.{and_right}
-use Rattle.steps.proofs.Common.{Bool, Cause, Entry, FactsTell, IsCell, IsChainDone, IsPlaced, IsReaped, IsReplied, IsTrue, Layout, Legal, Line, List, Nop, NotesTell, Op, Orderly, Phase, Req, Setup, Some, Submission, and_left, ap, arith, before_in, bool_cases, born_once, drains, etime_in, events_of, facts_at, facts_of, fails, false, inl, inr, lent, links_hard, links_soft, ltb-true, noted, outcome_of, phase, placed_behind, placed_from, reaped, refl, replied, reply_of_replied, request_at, row_number, setup_of, submission, submission_some, submits, sym, ticks_in, true, unborn, ℕ, ℤ, ⊎_elim, ◌%◌, ◌*◌, ◌+◌, ◌<◌, ◌∙◌, ◌≡◌, ◌⊎◌}
+use Rattle.steps.proofs.Common.{Bool, Cause, Entry, FactsTell, IsCell, IsChainDone, IsPlaced, IsReaped, IsReplied, IsTrue, Layout, Legal, Line, List, Nop, NotesTell, Op, Orderly, Phase, Req, Setup, Some, Submitted, and_left, ap, arith, before_in, bool_cases, born_once, drains, etime_in, events_of, facts_at, facts_of, fails, false, inl, inr, lent, links_hard, links_soft, ltb-true, noted, outcome_of, phase, placed_behind, placed_from, reaped, refl, replied, reply_of_replied, request_at, row_number, setup_of, submission, submission_some, submits, sym, ticks_in, true, unborn, ℕ, ℤ, ⊎_elim, ◌%◌, ◌*◌, ◌+◌, ◌<◌, ◌∙◌, ◌≡◌, ◌⊎◌}
 use Rattle.steps.proofs.FactsKept.{packed_generation}
 use Rattle.steps.proofs.NotesKept.{lent_out}
 use Rattle.steps.specs.FactsTold.{AreFacts, TellsFacts}
@@ -91,7 +91,7 @@ module _ (L : Layout) (j : List Line) (x g : ℕ) (inside : IsCell L.cells x) (s
   abbrev s : Setup
   s = setup_of L
 
-  handed : (y : Submission) × (submission (events_of j) q ≡ Some y)
+  handed : (y : Submitted) × (submission (events_of j) q ≡ Some y)
   handed = submission_some s (events_of j) q legal born
 
   entry_is : (d : Entry) × IsPlaced (events_of j) q d

@@ -1,7 +1,7 @@
 -- What stays true as the journal grows: of every line, and of the lines of others.
 use Rattle.std.proofs.Common.{◌==◌}
 use Rattle.history.proofs.LaterReplies.{later_grows}
-use Rattle.steps.proofs.Common.{Begin, Bool, Busy, Cause, Count, Cut, Did, Entry, Event, Expire, Fire, FireMiss, Freed, IsChainDone, IsOf, IsPlaced, IsReplied, Legal, Lent, Line, List, MayChange, MayCome, Miss, None, NoneOf, Open, Park, Phase, Reap, Reply, Req, Role, Settle, Setup, Sever, Severed, Shut, Some, Submission, Submit, Take, Tick, [], adds_to, answers, ap, arith, becomes, before_in, bool_cases, changed, concerns, cond, counted, data_in, data_of, done_stays, events_of, false, freed, later_replies, lent, may_change, ne_eqb, open_stays, owns, phase, placed_stays, previous, reaped, refl, replied, replied_stays, rings, runs, same, same_false, same_true, severed_stays, shut_for, stands_for, submission, submission_none, submission_stays, submits, subst, sym, true, true≢false, unborn, unchanged, was_shut, ℕ, ℤ, ⊎_elim, ◌++◌, ◌<◌, ◌∙◌, ◌∷◌, ◌≡◌, ◌≢◌, ◌≤◌}
+use Rattle.steps.proofs.Common.{Begin, Bool, Busy, Cause, Count, Cut, Did, Entry, Event, Expire, Fire, FireMiss, Freed, IsChainDone, IsOf, IsPlaced, IsReplied, Legal, Lent, Line, List, MayChange, MayCome, Miss, None, NoneOf, Open, Park, Phase, Reap, Reply, Req, Role, Settle, Setup, Sever, Severed, Shut, Some, Submitted, Submit, Take, Tick, [], adds_to, answers, ap, arith, becomes, before_in, bool_cases, changed, concerns, cond, counted, data_in, data_of, done_stays, events_of, false, freed, later_replies, lent, may_change, ne_eqb, open_stays, owns, phase, placed_stays, previous, reaped, refl, replied, replied_stays, rings, runs, same, same_false, same_true, severed_stays, shut_for, stands_for, submission, submission_none, submission_stays, submits, subst, sym, true, true≢false, unborn, unchanged, was_shut, ℕ, ℤ, ⊎_elim, ◌++◌, ◌<◌, ◌∙◌, ◌∷◌, ◌≡◌, ◌≢◌, ◌≤◌}
 
 -- the line is about this request
 abbrev pub about : Line → Req → Bool
@@ -82,7 +82,7 @@ module _ (s : Setup) where
   lasts P q k (l ∷ later) seen h c p = let m = submits_grow later seen q.ring in lasts_by P q k l (later ++ seen) h (omega arith) (lasts P q k later seen (legal_tail l (later ++ seen) h) c p)
 
   -- such facts: what was handed in, its entry, that it was answered or reaped, that it is open
-  pub submission_lasts : (q : Req) (x : Submission) → Lasting (λ h. submission h q ≡ Some x) q
+  pub submission_lasts : (q : Req) (x : Submitted) → Lasting (λ h. submission h q ≡ Some x) q
   submission_lasts q x e h l a c is = submission_stays s e h q a c ∙ is
 
   pub placed_lasts : (q : Req) (x : Entry) → Lasting (λ h. IsPlaced h q x) q
@@ -113,7 +113,7 @@ module _ (s : Setup) where
   pub counted_in : (j : List Line) (q : Req) (p : Phase) → Legal s (events_of j) → phase (events_of j) q ≡ p → p ≢ unborn → q.k < submits (events_of j) q.ring
   counted_in j q p l is born = counted s (events_of j) q l (λ u. born (sym is ∙ u))
 
-  pub submitted_in : (j : List Line) (q : Req) (x : Submission) → Legal s (events_of j) → submission (events_of j) q ≡ Some x → q.k < submits (events_of j) q.ring
+  pub submitted_in : (j : List Line) (q : Req) (x : Submitted) → Legal s (events_of j) → submission (events_of j) q ≡ Some x → q.k < submits (events_of j) q.ring
   submitted_in j q x l is = let n : ¬ (submits (events_of j) q.ring ≤ q.k) = λ le. (let e = sym is ∙ submission_none s (events_of j) q l le in cc) in omega arith
 
   pub replied_later : (later seen : List Line) (q : Req) → Legal s (events_of (later ++ seen)) → IsReplied (phase (events_of seen) q) → IsReplied (phase (events_of (later ++ seen)) q)

@@ -52,13 +52,13 @@ module _ (slots id : ℕ) (me : Seated) where
       → (s : St) (r : Ruled L s) → There slots id me s → get_or s.words (claim_at x) 0 ≡ word_of Ready 0 g 0 → Does slots id me s (claim_at x) new (began (step slots (claim_at x) old new none) me x (request_at K x g))
   begin_does x g old new idle has inside f is_new s r at is =
       let q : Req = request_at K x g in let l : Line = Did (Begin q) in let here = says_of K r.past x _ _ Ready 0 g 0 (r.cells x inside) is (omega arith) f (omega arith) in
-      let waiting : phase (events_of r.past) q ≡ waits = here.0.2 in let parcel : Keeps r.past q (get_elem? s.homes (slot_at x)) [] = here.0.5 in
+      let waiting : phase (events_of r.past) q ≡ waits = here.0.2 in let submission : Keeps r.past q (get_elem? s.homes (slot_at x)) [] = here.0.5 in
       let legal : Legal (setup_of L) (events_of (l ∷ r.past)) = ((r.live, (waiting, here.0.6.0, here.0.6.1)), r.legal) in
       let running : phase (events_of (l ∷ r.past)) q ≡ runs = now_is _ runs _ (same_itself q) in
       let free : (i : ℕ) (u : View) → get_elem? s.views i ≡ some u → stands_for u.role (workers q) ≡ true → ⊥ = no_worker slots id me s r q (λ e. (let y = waiting in let z = sym y ∙ e in cc)) (λ d. subst IsReplied waiting d) in
-      told_as slots id me s (claim_at x) new (λ m. (m.0 ≡ with_line slots id me (claim_at x) s r.past l (Busy q)) × (m.1 ≡ (slot_at x, Some (Full parcel.0)) ∷ me.1)) (began (step slots (claim_at x) old new none) me x q)
+      told_as slots id me s (claim_at x) new (λ m. (m.0 ≡ with_line slots id me (claim_at x) s r.past l (Busy q)) × (m.1 ≡ (slot_at x, Some (Full submission.0)) ∷ me.1)) (began (step slots (claim_at x) old new none) me x q)
       (λ m d _. subst (λ (w : View). Extends v l (Busy q) w × Hands (w, m.1) x q [] me.1 × ((n : ℕ) → holder w.seen n ≢ Some q)) (sym d.0)
-      (extends slots id me s r at (claim_at x) l (Busy q) legal r.live tt, (parcel.0, d.1, parcel.2), λ n held'. (let by = r.held_by n q held' in free by.0 by.1 by.2 (works_for by.1.role q n by.3))))
+      (extends slots id me s r at (claim_at x) l (Busy q) legal r.live tt, (submission.0, d.1, submission.2), λ n held'. (let by = r.held_by n q held' in free by.0 by.1 by.2 (works_for by.1.role q n by.3))))
       (slot_goes slots id me s r at x g new inside l (Busy q) (λ c. refl) (λ w. refl) (quiet_line L r.past l tt r.live refl (λ p. (refl, refl))) record {
         keeps = (λ p c is own. absurd (true≢false (sym own ∙ ap (λ (z : Role). stands_for z (holders c p)) idle)));
         has = has;
@@ -68,7 +68,7 @@ module _ (slots id : ℕ) (me : Seated) where
         leaving = (λ c is. absurd (cc));
         running = (λ c is. dec_req q c (λ same'. inl (ap Busy same')) (λ ne. inr (sym (phase_stays l r.past c (same_false q c ne)) ∙ is, λ z. absurd (let y = sym idle ∙ z in cc))));
       } legal (λ i u other there. (unowned u.role, busy_apart q u.role (λ c own. same_false q c (λ e. free i u there (subst (λ (z : Req). stands_for u.role (workers z) ≡ true) (sym e) own)))))
-      Running 0 0 (omega arith, f, omega arith) is_new here.1 (Some (Full parcel.0)) parcel.1 (λ _. (refl, refl, running, here.0.3, here.0.4, may_stays (setup_of L) l r.past legal q (counted_in (setup_of L) r.past q waits r.legal waiting (λ e. cc)) here.0.6)))
+      Running 0 0 (omega arith, f, omega arith) is_new here.1 (Some (Full submission.0)) submission.1 (λ _. (refl, refl, running, here.0.3, here.0.4, may_stays (setup_of L) l r.past legal q (counted_in (setup_of L) r.past q waits r.legal waiting (λ e. cc)) here.0.6)))
 
   pub begin_allows : (M : Layout) (x g old new : ℕ) → v.role ≡ Idle → 0 < v.parts → IsCell K x → g < 16777216 → old ≡ word_of Ready 0 g 0 → new ≡ word_of Running 0 g 0
       → Allows (Ruled M) slots id me (claim_at x) (λ n. either (eqb n old) new n) (tried Ready began (step slots (claim_at x) old new none) me)

@@ -1,5 +1,5 @@
 -- Which requests a cancel is meant for stays as the journal grows, and what had a cell before has gone.
-use Rattle.steps.proofs.Common.{Did, IsBefore, IsFree, IsReaped, Layout, Legal, Line, List, Matches, Orderly, Req, Setup, Some, Submission, Submit, [], ap, arith, bool_cases, cells_in, cond, events_of, false, phase, placed, placed_stays, refl, same, same_true, setup_of, submission, submission_some, submits, subst, sym, true, ℕ, ⊎_elim, ◌++◌, ◌+◌, ◌<◌, ◌∙◌, ◌∷◌, ◌≡◌, ◌≤◌}
+use Rattle.steps.proofs.Common.{Did, IsBefore, IsFree, IsReaped, Layout, Legal, Line, List, Matches, Orderly, Req, Setup, Some, Submitted, Submit, [], ap, arith, bool_cases, cells_in, cond, events_of, false, phase, placed, placed_stays, refl, same, same_true, setup_of, submission, submission_some, submits, subst, sym, true, ℕ, ⊎_elim, ◌++◌, ◌+◌, ◌<◌, ◌∙◌, ◌∷◌, ◌≡◌, ◌≤◌}
 use Rattle.steps.proofs.JournalGrowth.{lasts}
 use Rattle.steps.proofs.FreeCells.{free_later}
 
@@ -24,7 +24,7 @@ module _ (L : Layout) where
   abbrev T : Setup
   T = setup_of L
 
-  pub was_free : (j : List Line) (u : Req) (y : Submission) → Legal T (events_of j) → Orderly L j → submission (events_of j) u ≡ Some y → IsFree L.cells (events_of j) u
+  pub was_free : (j : List Line) (u : Req) (y : Submitted) → Legal T (events_of j) → Orderly L j → submission (events_of j) u ≡ Some y → IsFree L.cells (events_of j) u
   was_free [] u y legal orderly is = absurd (let z = is in cc)
   was_free (Did (Submit q e bytes last) ∷ j) u y legal orderly is = ⊎_elim
       (λ (w : same q u ≡ true). free_later T L.cells (Did (Submit q e bytes last) ∷ []) j u legal (subst (IsFree L.cells (events_of j)) (same_true q u w) orderly.0.0))

@@ -1,6 +1,6 @@
 -- The slots of a new table, as far as they are made.
 use Rattle.pipe.specs.{Conduit, new_conduit}
-use Rattle.steps.specs.declared.parcel.WaitedPipe.{WaitedPipe}
+use Rattle.steps.specs.declared.slot.WaitedPipe.{WaitedPipe}
 use Rattle.steps.proofs.Common.{List, None, Option, PipeIn, Piped, Some, Thing, [], ap, arith, at_longer, dite, get_elem?, get_or, length, length-append, refl, slot_at, slots_of, some, subst, sym, untouched, vec_capacity, ℕ, ℕ_discrete, ◌++◌, ◌+◌, ◌<◌, ◌∙◌, ◌∷◌, ◌≡◌}
 
 at_last : {A : Type 0} (l : List A) (a : A) → get_elem? (l ++ a ∷ []) (length l) ≡ some a

@@ -1,6 +1,6 @@
 -- The notes that a submitter stores before its Submit and before its Reap. With the facts it takes the slot of its cell.
 use mathlib.Core.Option as maybe
-use Rattle.steps.proofs.Common.{Allows, Bool, Busy, Cause, CellOk, Done, Empty, Entry, Extends, Fair, Full, Hands, IsCell, IsFactsNote, IsParcel, IsPlaced, Layout, Legal, Lending, Lent, Line, List, None, Noted, Option, Req, Role, Ruled, Seated, Some, Submitter, Thing, Vacant, View, ap, apart, arith, cause_bits, claim_at, cond, data_of, dite, emptied, eq-eqb, events_of, facts_at, fails, false, fits, get_elem?, get_or, get_or-set_other, get_or-set_same, inl, inr, is_leaving, keeps, length-set, lent, ne_eqb, none, note_at, noted, noted_more, opened, outcome_of, phase, refl, replied, request_at, ring_of, rings, same_false, same_itself, set, set_else, setup_of, slot_at, some, stands_for, step, stepped, subst, sym, takes, true, true≢false, unborn_yet, workers, ℕ, ℕ_discrete, ℤ, ◌*◌, ◌+◌, ◌<◌, ◌==◌, ◌∙◌, ◌∷◌, ◌≡◌, ◌≢◌, ◌⊎◌}
+use Rattle.steps.proofs.Common.{Allows, Bool, Busy, Cause, CellOk, Done, Empty, Entry, Extends, Fair, Full, Hands, IsCell, IsFactsNote, IsSubmission, IsPlaced, Layout, Legal, Lending, Lent, Line, List, None, Noted, Option, Req, Role, Ruled, Seated, Some, Submitter, Thing, Vacant, View, ap, apart, arith, cause_bits, claim_at, cond, data_of, dite, emptied, eq-eqb, events_of, facts_at, fails, false, fits, get_elem?, get_or, get_or-set_other, get_or-set_same, inl, inr, is_leaving, keeps, length-set, lent, ne_eqb, none, note_at, noted, noted_more, opened, outcome_of, phase, refl, replied, request_at, ring_of, rings, same_false, same_itself, set, set_else, setup_of, slot_at, some, stands_for, step, stepped, subst, sym, takes, true, true≢false, unborn_yet, workers, ℕ, ℕ_discrete, ℤ, ◌*◌, ◌+◌, ◌<◌, ◌==◌, ◌∙◌, ◌∷◌, ◌≡◌, ◌≢◌, ◌⊎◌}
 use Rattle.steps.proofs.CellNumbers.{other_cell, other_age, one_word}
 use Rattle.steps.proofs.Roles.{as_lending, idle_hands}
 use Rattle.steps.proofs.JournalGrowth.{begins, ran, lent_stays, counted_in, placed_lasts}
@@ -104,13 +104,13 @@ module _ (slots id : ℕ) (me : Seated) where
     empty_does : (n : ℕ) (c : Cause) (res : ℤ) (e : Entry) → phase (events_of v.seen) q ≡ replied c res → IsPlaced (events_of v.seen) q e → n ≡ outcome_of (noted v.seen (facts_at x)) (fails e res) → lent v.seen q ≡ false → (s : St) (r : Ruled L s) → There slots id me s → Does slots id me s (facts_at x) n (emptied (step slots (facts_at x) n 0 none) me n)
     empty_does n c res e done is_e value home s r at =
         let l : Line = Lent q (facts_at x) n in let ok = r.cells x inside in let done' = replied_now slots id me s r at q c res submits_here done in
-        let word = done_word K r.past x _ _ ok g c res done' in let parcel = word.keeps (lent_now slots id me s r at q false submits_here home) in
+        let word = done_word K r.past x _ _ ok g c res done' in let submission = word.keeps (lent_now slots id me s r at q false submits_here home) in
         let e_now : IsPlaced (events_of r.past) q e = lasts_now slots id me s r at (λ h. IsPlaced h q e) q (placed_lasts (setup_of L) q e) (counted_in (setup_of L) v.seen q (replied c res) (seen_legal slots id me s r at) done (λ e. cc)) is_e in
         let fair : Fair L r.past l = subst (IsFactsNote K r.past q (facts_at x) n) (sym done') (x, g, e, (inside, refl), f, refl, e_now, value ∙ ap (λ z. outcome_of z (fails e res)) (sym (noted_now slots id me s r at x 0 (omega arith) inside submits_here))) in (
           with_line slots id me (facts_at x) s r.past l (Lending q),
-          takes (slot_at x) (Some (Full parcel.0)),
-          parcel.1,
-          lend_by n s r at fair (Some (Full parcel.0)) parcel.1 record {
+          takes (slot_at x) (Some (Full submission.0)),
+          submission.1,
+          lend_by n s r at fair (Some (Full submission.0)) submission.1 record {
             tag = Done;
             cause = cause_bits c (fails word.entry res);
             gen = g;
@@ -124,8 +124,8 @@ module _ (slots id : ℕ) (me : Seated) where
               let other : phase (events_of r.past) (request_at K x h) ≡ replied c' res' = replied_now slots id me s r at (request_at K x h) c' res' submits_here (subst (λ (z : ℕ). phase (events_of v.seen) (request_at K z h) ≡ replied c' res') (sym same') done'') in
               let word' = done_word K r.past x _ _ ok h c' res' other in
               let o = one_word Done Done _ g word.payload _ h word'.payload word.fits.0 word.fits.1 word.fits.2 word'.fits.0 word'.fits.1 word'.fits.2 (sym word.word_is ∙ word'.word_is) in (
-                subst (λ (z : ℕ × ℕ). Extends v (Lent (request_at K z.0 z.1) (facts_at x) n) (Lending (request_at K z.0 z.1)) (with_line slots id me (facts_at x) s r.past l (Lending q)) × Hands (with_line slots id me (facts_at x) s r.past l (Lending q), (slot_at x, Some (Full parcel.0)) ∷ me.1) z.0 (request_at K z.0 z.1) (data_of (events_of v.seen) (request_at K z.0 z.1)) me.1) (λ i. (same' i, o.2 i))
-                    (extends slots id me s r at (facts_at x) l (Lending q) r.legal r.live fair, (parcel.0, refl, subst (λ (z : List ℕ). IsParcel r.past q z parcel.0) (data_now slots id me s r at q c res submits_here done) parcel.2)),
+                subst (λ (z : ℕ × ℕ). Extends v (Lent (request_at K z.0 z.1) (facts_at x) n) (Lending (request_at K z.0 z.1)) (with_line slots id me (facts_at x) s r.past l (Lending q)) × Hands (with_line slots id me (facts_at x) s r.past l (Lending q), (slot_at x, Some (Full submission.0)) ∷ me.1) z.0 (request_at K z.0 z.1) (data_of (events_of v.seen) (request_at K z.0 z.1)) me.1) (λ i. (same' i, o.2 i))
+                    (extends slots id me s r at (facts_at x) l (Lending q) r.legal r.live fair, (submission.0, refl, subst (λ (z : List ℕ). IsSubmission r.past q z submission.0) (data_now slots id me s r at q c res submits_here done) submission.2)),
                 (get_or s.words (facts_at x) 0, refl),
               )),
           refl,

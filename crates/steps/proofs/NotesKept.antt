@@ -1,5 +1,5 @@
 -- While a request is submitted its notes are those of its entry, and once its slot is out for the Reap, the outcome stands in them.
-use Rattle.steps.proofs.Common.{AreNoted, Bool, Cause, Did, Entry, Event, Fair, IsCell, IsChainDone, IsFactsNote, IsFree, IsIn, IsPlaced, IsReaped, Layout, Legal, Lent, Line, List, MayChange, MayCome, Noted, NotesSay, NotesTell, Orderly, Phase, Reap, Req, Setup, Some, Submission, Submit, [], after_reap, ap, arith, bool_cases, born_once, cells_in, changed, concerns, cond, count_at, count_of, dite, eq-eqb, events_of, facts_at, facts_of, fails, false, inl, inr, is_timeout, lent, ltb-false, ltb-true, may_change, nat_lt, ne_eqb, noted, outcome_of, phase, place_of, placed_stays, reaped, refl, replied, request_at, ring_of, same, same_itself, same_true, submission, submission_none, submits, subst, suc, suc-mul, sym, true, true≢false, unborn, unchanged, user_at, zero, ℕ, ℕ_discrete, ℤ, ⊎_elim, ◌*◌, ◌+◌, ◌<◌, ◌∙◌, ◌∷◌, ◌≡◌, ◌≢◌, ◌≤◌, ◌⊎◌}
+use Rattle.steps.proofs.Common.{AreNoted, Bool, Cause, Did, Entry, Event, Fair, IsCell, IsChainDone, IsFactsNote, IsFree, IsIn, IsPlaced, IsReaped, Layout, Legal, Lent, Line, List, MayChange, MayCome, Noted, NotesSay, NotesTell, Orderly, Phase, Reap, Req, Setup, Some, Submitted, Submit, [], after_reap, ap, arith, bool_cases, born_once, cells_in, changed, concerns, cond, count_at, count_of, dite, eq-eqb, events_of, facts_at, facts_of, fails, false, inl, inr, is_timeout, lent, ltb-false, ltb-true, may_change, nat_lt, ne_eqb, noted, outcome_of, phase, place_of, placed_stays, reaped, refl, replied, request_at, ring_of, same, same_itself, same_true, submission, submission_none, submits, subst, suc, suc-mul, sym, true, true≢false, unborn, unchanged, user_at, zero, ℕ, ℕ_discrete, ℤ, ⊎_elim, ◌*◌, ◌+◌, ◌<◌, ◌∙◌, ◌∷◌, ◌≡◌, ◌≢◌, ◌≤◌, ◌⊎◌}
 use Rattle.steps.proofs.CellNumbers.{one_cell, other_cell}
 use Rattle.steps.proofs.FreeCells.{reaped_as}
 use Rattle.steps.proofs.JournalGrowth.{legal_tail, reaped_lasts, done_lasts, lasts_by, counted_in}
@@ -128,11 +128,11 @@ module _ (L : Layout) (s : Setup) where
     abbrev r : Req
     r = request_at K x g
 
-    pub submitted_at : (h : List Event) (y : Submission) → Legal s h → submission h r ≡ Some y → r.k < submits h r.ring
+    pub submitted_at : (h : List Event) (y : Submitted) → Legal s h → submission h r ≡ Some y → r.k < submits h r.ring
     submitted_at h y l is = (let n : ¬ (submits h r.ring ≤ r.k) = λ le. (let e = sym is ∙ submission_none s h r l le in cc) in omega arith)
 
     -- a line that stores nothing in the notes of x, and leaves the request's slot and phase
-    carry : (l : Line) (j : List Line) (y : Submission) (d : Entry) → noted (l ∷ j) (facts_at x) ≡ noted j (facts_at x) → noted (l ∷ j) (user_at x) ≡ noted j (user_at x) → noted (l ∷ j) (count_at x) ≡ noted j (count_at x) → lent (l ∷ j) r ≡ lent j r
+    carry : (l : Line) (j : List Line) (y : Submitted) (d : Entry) → noted (l ∷ j) (facts_at x) ≡ noted j (facts_at x) → noted (l ∷ j) (user_at x) ≡ noted j (user_at x) → noted (l ∷ j) (count_at x) ≡ noted j (count_at x) → lent (l ∷ j) r ≡ lent j r
         → ((c : Cause) (res : ℤ) → phase (events_of (l ∷ j)) r ≡ replied c res → lent j r ≡ true → phase (events_of j) r ≡ replied c res) → NotesSay K j x g y d → NotesSay K (l ∷ j) x g y d
     carry l j y d facts user count slot still n = record {
       facts = λ f. facts ∙ n.facts (sym slot ∙ f);
@@ -141,27 +141,27 @@ module _ (L : Layout) (s : Setup) where
       count = λ t. count ∙ n.count t;
     }
 
-    pub placed_before : (e : Event) (h : List Event) (y : Submission) (d : Entry) → Legal s (e ∷ h) → submission h r ≡ Some y → IsPlaced (e ∷ h) r d → IsPlaced h r d
+    pub placed_before : (e : Event) (h : List Event) (y : Submitted) (d : Entry) → Legal s (e ∷ h) → submission h r ≡ Some y → IsPlaced (e ∷ h) r d → IsPlaced h r d
     placed_before e h y d l is p = sym (placed_stays s e h l.1 l.0.1 r (submitted_at h y l.1 is)) ∙ p
 
-    born_at : (j : List Line) (y : Submission) → Legal s (events_of j) → submission (events_of j) r ≡ Some y → phase (events_of j) r ≢ unborn
+    born_at : (j : List Line) (y : Submitted) → Legal s (events_of j) → submission (events_of j) r ≡ Some y → phase (events_of j) r ≢ unborn
     born_at j y h is = born_once s (events_of j) r h (submitted_at (events_of j) y h is)
 
     -- the notes that a Submit finds are those of its entry
-    at_submit : (q : Req) (e : Entry) (bytes : List ℕ) (last : Bool) (j : List Line) (y : Submission) (d : Entry) → same q r ≡ true → Fair L j (Did (Submit q e bytes last)) → submission (Submit q e bytes last ∷ events_of j) r ≡ Some y → IsPlaced (Submit q e bytes last ∷ events_of j) r d → NotesSay K (Did (Submit q e bytes last) ∷ j) x g y d
+    at_submit : (q : Req) (e : Entry) (bytes : List ℕ) (last : Bool) (j : List Line) (y : Submitted) (d : Entry) → same q r ≡ true → Fair L j (Did (Submit q e bytes last)) → submission (Submit q e bytes last ∷ events_of j) r ≡ Some y → IsPlaced (Submit q e bytes last ∷ events_of j) r d → NotesSay K (Did (Submit q e bytes last) ∷ j) x g y d
     at_submit q e bytes last j y d w fair is p =
-        let z : Submission = record { entry = e; bytes = bytes; last = last } in let one : q ≡ r = same_true q r w in
+        let z : Submitted = record { entry = e; bytes = bytes; last = last } in let one : q ≡ r = same_true q r w in
         let given : z ≡ y = (let k : Some z ≡ Some y = sym (ap (λ b. cond b (Some z) (submission (events_of j) r)) w) ∙ is in cc) in
         let a = subst (λ (k : Req). AreNoted K j k e bytes last) one fair.1 in let at' = one_cell K a.0 x a.1 g a.3.0 inside a.3.1 in
         let p' : IsPlaced (Submit r e bytes last ∷ events_of j) r d = subst (λ (k : Req). IsPlaced (Submit k e bytes last ∷ events_of j) r d) one p in let same_entry : a.2 ≡ d = (let k = sym a.4 ∙ p' in cc) in record {
           facts = λ _. sym (ap (λ (n : ℕ). noted j (facts_at n)) at'.0) ∙ (a.5 ∙ (λ i. facts_of (at'.1 i) (same_entry i) (given i).last));
           outcome = λ c res k f. absurd (true≢false (sym f ∙ ap (λ b. cond b false (lent j r)) w));
-          user_data = sym (ap (λ (n : ℕ). noted j (user_at n)) at'.0) ∙ (a.6 ∙ ap (λ (n : Submission). n.entry.user_data) given);
+          user_data = sym (ap (λ (n : ℕ). noted j (user_at n)) at'.0) ∙ (a.6 ∙ ap (λ (n : Submitted). n.entry.user_data) given);
           count = λ t. sym (ap (λ (n : ℕ). noted j (count_at n)) at'.0) ∙ (a.7 (ap (λ (n : Entry). is_timeout n.op) same_entry ∙ t) ∙ ap (λ (n : Entry). count_of n.op) same_entry);
         }
 
     -- a note before the Submit of another request of the cell is not stored now
-    not_now : (j : List Line) (y : Submission) (n : ℕ) → Legal s (events_of j) → Orderly L j → submission (events_of j) r ≡ Some y → ¬ IsReaped (phase (events_of j) r) → phase (events_of j) (request_at K x n) ≡ unborn → IsFree K (events_of j) (request_at K x n) → ⊥
+    not_now : (j : List Line) (y : Submitted) (n : ℕ) → Legal s (events_of j) → Orderly L j → submission (events_of j) r ≡ Some y → ¬ IsReaped (phase (events_of j) r) → phase (events_of j) (request_at K x n) ≡ unborn → IsFree K (events_of j) (request_at K x n) → ⊥
     not_now j y zero h o is alive was free = dite (ℕ_discrete 0 g) (λ e. born_at j y h is (subst (λ (m : ℕ). phase (events_of j) (request_at K x m) ≡ unborn) e was))
         (λ ne. reaped_born (phase (events_of j) (request_at K x 0)) (earlier_reaped x inside j h o g 0 (omega arith) (born_at j y h is)) was)
     not_now j y (suc n) h o is alive was free =
@@ -172,7 +172,7 @@ module _ (L : Layout) (s : Setup) where
         (λ ne'. (let m = earlier_reaped x inside j h o in either g n ne ne' (λ lt. alive (m n g lt (reaped_born (phase (events_of j) (request_at K x n)) gone))) (λ lt. reaped_born (phase (events_of j) (request_at K x (suc n))) (m g (suc n) lt (born_at j y h is)) was))))
 
     -- a store of the facts of the request of generation n
-    at_store : (q : Req) (word value : ℕ) (j : List Line) (y : Submission) (d : Entry) → Legal s (events_of j) → Orderly L j → IsStored j q word value → submission (events_of j) r ≡ Some y → IsPlaced (events_of j) r d → ¬ IsReaped (phase (events_of j) r) → NotesSay K j x g y d → NotesSay K (Lent q word value ∷ j) x g y d
+    at_store : (q : Req) (word value : ℕ) (j : List Line) (y : Submitted) (d : Entry) → Legal s (events_of j) → Orderly L j → IsStored j q word value → submission (events_of j) r ≡ Some y → IsPlaced (events_of j) r d → ¬ IsReaped (phase (events_of j) r) → NotesSay K j x g y d → NotesSay K (Lent q word value ∷ j) x g y d
     at_store q word value j y d h o st is p alive n = dite (ℕ_discrete st.cell x)
         (λ same_cell. (let here : request_at K x st.gen ≡ q = subst (λ (m : ℕ). request_at K m st.gen ≡ q) same_cell st.is_in.1 in dite (ℕ_discrete st.gen g)
         (λ same_gen. (let one : q ≡ r = sym here ∙ ap (request_at K x) same_gen in ⊎_elim
@@ -185,7 +185,7 @@ module _ (L : Layout) (s : Setup) where
         (λ ne. carry (Lent q word value) j y d (ap (λ b. cond b value (noted j (facts_at x))) (ne_eqb word (facts_at x) (let e = st.word_is in λ z. ne (omega arith)))) (ap (λ b. cond b value (noted j (user_at x))) (ne_eqb word (user_at x) (let e = st.word_is in λ z. absurd (let k = z in omega arith)))) (ap (λ b. cond b value (noted j (count_at x))) (ne_eqb word (count_at x) (let e = st.word_is in λ z. absurd (let k = z in omega arith))))
         (ap (λ b. cond b true (lent j r)) (subst (λ (k : Req). same k r ≡ false) st.is_in.1 (other_cell K st.cell x st.gen g st.is_in.0 inside (λ e. ne (sym e))))) (λ c res k f. k) n)
       where
-        own_store : (q : Req) (word value : ℕ) (j : List Line) (y : Submission) (d : Entry) (c : Cause) (res : ℤ) (e : Entry) → q ≡ r → word ≡ facts_at x → phase (events_of j) r ≡ replied c res → e ≡ d → value ≡ outcome_of (noted j (facts_at x)) (fails e res) → NotesSay K j x g y d → NotesSay K (Lent q word value ∷ j) x g y d
+        own_store : (q : Req) (word value : ℕ) (j : List Line) (y : Submitted) (d : Entry) (c : Cause) (res : ℤ) (e : Entry) → q ≡ r → word ≡ facts_at x → phase (events_of j) r ≡ replied c res → e ≡ d → value ≡ outcome_of (noted j (facts_at x)) (fails e res) → NotesSay K j x g y d → NotesSay K (Lent q word value ∷ j) x g y d
         own_store q word value j y d c res e one at' now' same_entry is n = record {
           facts = λ f. absurd (true≢false (sym (ap (λ b. cond b true (lent j r)) (subst (λ (k : Req). same k r ≡ true) (sym one) (same_itself r))) ∙ f));
           outcome = λ c' res' k f. (let same_res : res ≡ res' = (let z = sym now' ∙ k in cc) in
@@ -202,11 +202,11 @@ module _ (L : Layout) (s : Setup) where
         subst IsReaped (sym (changed s (Reap q) h r w ∙ ap after_reap was)) tt
 
     -- the notes of a request that was submitted and not reaped
-    pub notes_are : (j : List Line) → Legal s (events_of j) → Orderly L j → (y : Submission) (d : Entry) → submission (events_of j) r ≡ Some y → IsPlaced (events_of j) r d → ¬ IsReaped (phase (events_of j) r) → NotesSay K j x g y d
+    pub notes_are : (j : List Line) → Legal s (events_of j) → Orderly L j → (y : Submitted) (d : Entry) → submission (events_of j) r ≡ Some y → IsPlaced (events_of j) r d → ¬ IsReaped (phase (events_of j) r) → NotesSay K j x g y d
     notes_are [] h o y d is p alive = absurd (let z = is in cc)
     notes_are (Did (Submit q e bytes last) ∷ j) h o y d is p alive = let l : Line = Did (Submit q e bytes last) in ⊎_elim
         (λ (w : same q r ≡ true). at_submit q e bytes last j y d w o.0 is p)
-        (λ (w : same q r ≡ false). (let z : Submission = record { entry = e; bytes = bytes; last = last } in let was : submission (events_of j) r ≡ Some y = sym (ap (λ b. cond b (Some z) (submission (events_of j) r)) w) ∙ is in
+        (λ (w : same q r ≡ false). (let z : Submitted = record { entry = e; bytes = bytes; last = last } in let was : submission (events_of j) r ≡ Some y = sym (ap (λ b. cond b (Some z) (submission (events_of j) r)) w) ∙ is in
         carry l j y d refl refl refl (ap (λ b. cond b false (lent j r)) w) (λ c res k f. sym (unchanged s (Submit q e bytes last) (events_of j) r w) ∙ k)
         (notes_are j h.1 o.1 y d was (placed_before (Submit q e bytes last) (events_of j) y d h was p) (λ k. alive (reaped_on l j r h k))))) (bool_cases (same q r))
     notes_are (Did (Reap q) ∷ j) h o y d is p alive = let l : Line = Did (Reap q) in ⊎_elim

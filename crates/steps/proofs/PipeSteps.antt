@@ -2,8 +2,8 @@
 use mathlib.Core.Option as maybe
 use Rattle.history.proofs.Contents.{flows_as_by}
 use Rattle.steps.specs.declared.line.Laid.TheVariants.{NoRequest}
-use Rattle.steps.specs.declared.parcel.WaitedPipe.{WaitedPipe}
-use Rattle.steps.proofs.Common.{Allows, At, Busy, Did, Entry, Event, Extends, Fair, Flow, Free, Full, HasAlone, HasBoth, HasPipe, HasPipeAfter, HasWaited, Heard, Hold, Home, Idle, IsHeard, IsHeldBy, IsPlaced, IsSamePipe, IsStep, Knows, Laid, Layout, Leaving, Legal, Lending, Line, List, Looks, MayLay, None, OpAnswers, Option, Orderly, Owner, Parting, PipeIs, PipeOk, PipeSays, Piped, Reply, Req, Role, Ruled, Saw, SeatOk, Seated, Some, State, Step, Submission, Thing, View, [], and_from, and_parts, and_right, answers, ap, apart, arith, claim_at, clock_of, cond, content, contents, dite, either, eq-eqb, eqb, eqb-true, events_of, exchanged, false, flow, flows_as, get_elem?, get_or, get_or-set_other, get_or-set_same, gives, holder, holders, inl, inr, is_holder, is_leaving, is_pipe, lays, leaves_one, length, length-set, lent, lying, ne_eqb, none, note_at, noted, owns, phase, pipe_at, pipe_left, pipe_left_first, pipe_left_last, pipe_returned, pipe_taken, refl, request_at, rest, same, same_itself, same_true, seeing, set, set_else, set_here, setup_of, slot_at, some, stands, stands_for, step, stepped, submission, submits, subst, suc, sym, takes, true, true≢false, uses_at, was_shut, ℕ, ℕ_discrete, ℤ, ⊎_elim, ◌++◌, ◌<◌, ◌==◌, ◌∙◌, ◌∷◌, ◌≡◌, ◌≢◌, ◌⊎◌}
+use Rattle.steps.specs.declared.slot.WaitedPipe.{WaitedPipe}
+use Rattle.steps.proofs.Common.{Allows, At, Busy, Did, Entry, Event, Extends, Fair, Flow, Free, Full, HasAlone, HasBoth, HasPipe, HasPipeAfter, HasWaited, Heard, Hold, Home, Idle, IsHeard, IsHeldBy, IsPlaced, IsSamePipe, IsStep, Knows, Laid, Layout, Leaving, Legal, Lending, Line, List, Looks, MayLay, None, OpAnswers, Option, Orderly, Owner, Parting, PipeIs, PipeOk, PipeSays, Piped, Reply, Req, Role, Ruled, Saw, SeatOk, Seated, Some, State, Step, Submitted, Thing, View, [], and_from, and_parts, and_right, answers, ap, apart, arith, claim_at, clock_of, cond, content, contents, dite, either, eq-eqb, eqb, eqb-true, events_of, exchanged, false, flow, flows_as, get_elem?, get_or, get_or-set_other, get_or-set_same, gives, holder, holders, inl, inr, is_holder, is_leaving, is_pipe, lays, leaves_one, length, length-set, lent, lying, ne_eqb, none, note_at, noted, owns, phase, pipe_at, pipe_left, pipe_left_first, pipe_left_last, pipe_returned, pipe_taken, refl, request_at, rest, same, same_itself, same_true, seeing, set, set_else, set_here, setup_of, slot_at, some, stands, stands_for, step, stepped, submission, submits, subst, suc, sym, takes, true, true≢false, uses_at, was_shut, ℕ, ℕ_discrete, ℤ, ⊎_elim, ◌++◌, ◌<◌, ◌==◌, ◌∙◌, ◌∷◌, ◌≡◌, ◌≢◌, ◌⊎◌}
 use Rattle.steps.proofs.Roles.{same_sym, idle_hands, idle_apart, idle_owns, none_of, parting_apart, parting_owns}
 use Rattle.steps.proofs.JournalGrowth.{about, lasts, legal_before, submitted_in, submission_lasts, placed_lasts}
 use Rattle.steps.proofs.Frames.{pipe_stays, still_lacks}
@@ -375,7 +375,7 @@ module _ (v w : View) (q : Req) (p : ℕ) (busy : v.role ≡ Busy q) where
     pub both_replied : (n : ℕ) → is_pipe v.layout.caps n ≡ true → HasBoth v.seen p n q → HasBoth w.seen p n q
     both_replied n there' has = subst (λ (j : List Line). HasBoth j p n q) (sym seen_is) (has.0, (kept has.1).0, (keeps_on n x.mid x.saw x.orderly.1 there' has.2).0, λ m ne ne' is. lacks_on m x.mid x.saw (has.3 m ne ne') is)
 
-    flow_replied : holder v.seen p ≡ Some q → (d : Entry) (y : Submission) → IsPlaced (events_of v.seen) q d → submission (events_of v.seen) q ≡ Some y → OpAnswers v.layout.caps (events_of v.seen) q d.op res data'
+    flow_replied : holder v.seen p ≡ Some q → (d : Entry) (y : Submitted) → IsPlaced (events_of v.seen) q d → submission (events_of v.seen) q ≡ Some y → OpAnswers v.layout.caps (events_of v.seen) q d.op res data'
         → ((n : ℕ) → is_pipe v.layout.caps n ≡ true → uses_at d.op n ≡ true → holder v.seen n ≡ Some q)
         → flow (events_of w.seen) p ≡ flows_as (Some d) (submission (events_of v.seen) q) (contents (events_of v.seen)) res p (flow (events_of v.seen) p)
     flow_replied has d y is given answers held =
@@ -391,7 +391,7 @@ module _ (v w : View) (q : Req) (p : ℕ) (busy : v.role ≡ Busy q) where
     none_lie : holder v.seen p ≡ Some q → lying w.seen p ≡ []
     none_lie has = ap (λ (j : List Line). lying j p) seen_is ∙ (ap (λ (o : Option Req). cond (is_holder o q) [] (lying x.mid p)) (kept has).0 ∙ ap (λ b. cond b [] (lying x.mid p)) (same_itself q))
 
-    pub pipe_replied : (hand : List (ℕ × Option Thing)) → holder v.seen p ≡ Some q → (d : Entry) (y : Submission) → IsPlaced (events_of v.seen) q d → submission (events_of v.seen) q ≡ Some y → OpAnswers v.layout.caps (events_of v.seen) q d.op res data'
+    pub pipe_replied : (hand : List (ℕ × Option Thing)) → holder v.seen p ≡ Some q → (d : Entry) (y : Submitted) → IsPlaced (events_of v.seen) q d → submission (events_of v.seen) q ≡ Some y → OpAnswers v.layout.caps (events_of v.seen) q d.op res data'
         → ((n : ℕ) → is_pipe v.layout.caps n ≡ true → uses_at d.op n ≡ true → holder v.seen n ≡ Some q)
         → HasPipeAfter (v, hand) p q d res → HasPipe (w, rest hand) p (rest (rest hand))
     pipe_replied hand has d y is given answers held a = (a.0, a.1, subst (λ (z : Layout × (Flow × List Req)). PipeIs z.0 p (Some (Piped a.0)) z.1) (λ i. (sym (ap (λ (z : View). z.layout) x.is) i, (sym (flow_replied has d y is given answers held) i, sym (none_lie has) i))) a.2)

@@ -1,5 +1,5 @@
 -- How a worker ends with a request: by a reply, with the pipe that its entry names or without one, or by parking it.
-use Rattle.steps.proofs.Common.{Allows, Busy, Did, Done, Entry, Event, Extends, Flow, Full, Idle, IsCell, IsParcel, IsPlaced, IsReplied, Layout, Leaving, Legal, Line, List, MayReply, OpAnswers, Parcel, Park, Ready, Reply, Req, Role, Ruled, Running, Seated, Some, View, [], ap, apart, arith, by_reply, cause_bits, claim_at, either, eqb, events_of, fails, false, flow, get_or, hit, holder, holders, inr, is_pipe, lent, none, nothing, owns, parked, phase, refl, replied, replied_with, reply_bits, request_at, rest, runs, same_itself, same_true, setup_of, stands_for, step, submission, submits, subst, sure, sym, true, uses_at, uses_at_in, waits, word_of, ℕ, ℤ, ◌<◌, ◌∙◌, ◌∷◌, ◌≡◌, ◌≢◌}
+use Rattle.steps.proofs.Common.{Allows, Busy, Did, Done, Entry, Event, Extends, Flow, Full, Idle, IsCell, IsSubmission, IsPlaced, IsReplied, Layout, Leaving, Legal, Line, List, MayReply, OpAnswers, Submission, Park, Ready, Reply, Req, Role, Ruled, Running, Seated, Some, View, [], ap, apart, arith, by_reply, cause_bits, claim_at, either, eqb, events_of, fails, false, flow, get_or, hit, holder, holders, inr, is_pipe, lent, none, nothing, owns, parked, phase, refl, replied, replied_with, reply_bits, request_at, rest, runs, same_itself, same_true, setup_of, stands_for, step, submission, submits, subst, sure, sym, true, uses_at, uses_at_in, waits, word_of, ℕ, ℤ, ◌<◌, ◌∙◌, ◌∷◌, ◌≡◌, ◌≢◌}
 use Rattle.steps.proofs.CellNumbers.{one_word, one_result}
 use Rattle.steps.proofs.CancelsKept.{hit_now, cancel_now}
 use Rattle.steps.proofs.PipesKept.{answer_stays, one_data, reply_leaves}
@@ -19,9 +19,9 @@ module _ (slots id : ℕ) (me : Seated) where
   abbrev L : Layout
   L = v.layout
 
-  -- the parcel in the hand, as it was handed in
-  parcel_now : (s : St) (r : Ruled L s) → There slots id me s → (q : Req) (data' : List ℕ) (p : Parcel) → q.k < submits (events_of v.seen) q.ring → IsParcel v.seen q data' p → IsParcel r.past q data' p
-  parcel_now s r at q data' p c k = (k.0, lasts_now slots id me s r at (λ h. submission h q ≡ Some (record { entry = p.sqe; bytes = k.0; last = p.last })) q (submission_lasts (setup_of L) q _) c k.1, k.2)
+  -- the submission in the hand, as it was handed in
+  submission_now : (s : St) (r : Ruled L s) → There slots id me s → (q : Req) (data' : List ℕ) (p : Submission) → q.k < submits (events_of v.seen) q.ring → IsSubmission v.seen q data' p → IsSubmission r.past q data' p
+  submission_now s r at q data' p c k = (k.0, lasts_now slots id me s r at (λ h. submission h q ≡ Some (record { entry = p.sqe; bytes = k.0; last = p.last })) q (submission_lasts (setup_of L) q _) c k.1, k.2)
 
   -- a worker that has its pipe leaves with the request that it ran
   leaves_run : (s : St) (r : Ruled L s) → There slots id me s → (l : Line) (q : Req) → owns v.role l ≡ true → begins l ≡ false → Legal (setup_of L) (events_of (l ∷ r.past)) → v.role ≡ Busy q → IsReplied (phase (events_of (l ∷ r.past)) q) → ((c : Req) → lent (l ∷ r.past) c ≡ lent r.past c) → Turns r.past l v (Leaving q)
@@ -35,7 +35,7 @@ module _ (slots id : ℕ) (me : Seated) where
     running = λ c is. inr (ran (setup_of L) l r.past c legal calm is, λ z. (let same' : q ≡ c = (let y = sym busy ∙ z in cc) in absurd (subst IsReplied (ap (phase (events_of (l ∷ r.past))) same' ∙ is) over)));
   }
 
-  module _ (x g : ℕ) (p : Parcel) (data' : List ℕ) (busy : v.role ≡ Busy (request_at L.cells x g)) (inside : IsCell L.cells x) (f : g < 16777216) (out : Out slots id me x (Some (Full p))) (given : IsParcel v.seen (request_at L.cells x g) data' p) where
+  module _ (x g : ℕ) (p : Submission) (data' : List ℕ) (busy : v.role ≡ Busy (request_at L.cells x g)) (inside : IsCell L.cells x) (f : g < 16777216) (out : Out slots id me x (Some (Full p))) (given : IsSubmission v.seen (request_at L.cells x g) data' p) where
     abbrev q : Req
     q = request_at L.cells x g
 
@@ -80,7 +80,7 @@ module _ (slots id : ℕ) (me : Seated) where
           → (s : St) (r : Ruled L s) → There slots id me s → (get_or s.words (claim_at x) 0 ≡ word_of Running 0 g 0) × Does slots id me s (claim_at x) new (replied_with after (step slots (claim_at x) old new none) me x q)
       reply_does b old new ends spread is_new fb bits s r at =
           let l : Line = Did (Reply q res data') in let now = running_now s r at in let k = entry_now s r at in
-          let here = says_of L.cells r.past x _ _ Running 0 g 0 (r.cells x inside) now.2 (omega arith) f (omega arith) in let given' = parcel_now s r at q data' p now.0 given in
+          let here = says_of L.cells r.past x _ _ Running 0 g 0 (r.cells x inside) now.2 (omega arith) f (omega arith) in let given' = submission_now s r at q data' p now.0 given in
           let legal = legal_now' s r at in (
             now.2,
             told_as slots id me s (claim_at x) new (λ m. Extends v l (after q) m.0 × (m.1 ≡ rest me.1)) (replied_with after (step slots (claim_at x) old new none) me x q)
@@ -123,7 +123,7 @@ module _ (slots id : ℕ) (me : Seated) where
           slot_comes slots id me s r at x g new inside l Idle (λ c. refl) (λ w. refl) (quiet_line L r.past l fair r.live refl (λ p. (refl, refl))) (ends_run slots id me s r at l q (own_line l (same_itself q)) refl legal busy (λ u. (let z = sym waiting ∙ u in cc)) bare (λ _. refl)) legal
               (λ i u other there. ((owned L s r id v l at (own_line l (same_itself q)) i u other there).0, idle_apart u.role))
               Ready 0 0 (omega arith, f, omega arith) is_new here.1 (Some (Full p)) out
-              (refl, refl, waiting, here.0.3, here.0.4, (p, refl, subst (λ (d : List ℕ). IsParcel r.past q d p) none' (parcel_now s r at q data' p now.0 given)), may_stays (setup_of L) l r.past legal q (counted_in (setup_of L) r.past q runs r.legal running (λ e. cc)) here.0.5),
+              (refl, refl, waiting, here.0.3, here.0.4, (p, refl, subst (λ (d : List ℕ). IsSubmission r.past q d p) none' (submission_now s r at q data' p now.0 given)), may_stays (setup_of L) l r.past legal q (counted_in (setup_of L) r.past q runs r.legal running (λ e. cc)) here.0.5),
         )
 
     pub park_allows : (M : Layout) (old new : ℕ) → hit (events_of v.seen) q ≡ nothing → data' ≡ [] → ((n : ℕ) → holder v.seen n ≢ Some q) → old ≡ word_of Running 0 g 0 → new ≡ word_of Ready 0 g 0 → Allows (Ruled M) slots id me (claim_at x) (λ n. either (eqb n old) new n) (sure Running parked (step slots (claim_at x) old new none) me)

@@ -1,7 +1,7 @@
 -- What lies with its pipes has no answer there.
 use Rattle.steps.specs.declared.line.Laid.TheVariants.{NoRequest, Behind, Alone}
 use Rattle.steps.specs.Sleepers.{LiesIn, NoneSleeps}
-use Rattle.steps.proofs.Common.{AsyncCancel, Bool, Did, Entry, Event, Free, HasNone, HasWaited, IsPlaced, Laid, Layout, Legal, Line, List, MayLay, None, Op, OpAnswers, Option, Orderly, Reply, Req, Setup, Some, Submission, TimeoutRemove, [], ap, arith, before_in, bool_cases, cond, eqb-true, events_of, false, flow, holder, inl, inr, is_holder, is_pipe, is_steady, lays, lying, placed, placed_from, placed_stays, refl, same_itself, setup_of, submission, submission_none, submits, subst, sym, true, true≢false, uses_at, uses_at_in, ℕ, ℤ, ⊎_elim, ◌++◌, ◌<◌, ◌==◌, ◌∙◌, ◌∷◌, ◌≡◌, ◌≤◌, ◌⊎◌}
+use Rattle.steps.proofs.Common.{AsyncCancel, Bool, Did, Entry, Event, Free, HasNone, HasWaited, IsPlaced, Laid, Layout, Legal, Line, List, MayLay, None, Op, OpAnswers, Option, Orderly, Reply, Req, Setup, Some, Submitted, TimeoutRemove, [], ap, arith, before_in, bool_cases, cond, eqb-true, events_of, false, flow, holder, inl, inr, is_holder, is_pipe, is_steady, lays, lying, placed, placed_from, placed_stays, refl, same_itself, setup_of, submission, submission_none, submits, subst, sym, true, true≢false, uses_at, uses_at_in, ℕ, ℤ, ⊎_elim, ◌++◌, ◌<◌, ◌==◌, ◌∙◌, ◌∷◌, ◌≡◌, ◌≤◌, ◌⊎◌}
 use Rattle.steps.proofs.PipesKept.{answer_stays, untouched_flow}
 
 in_more : (rs : List Req) (c r : Req) → LiesIn (rs ++ (c ∷ [])) r → LiesIn rs r ⊎ (c ≡ r)
@@ -36,7 +36,7 @@ module _ (L : Layout) (r : Req) (p : ℕ) (there : is_pipe L.caps p ≡ true) wh
   lies_waited (l ∷ j) o k = lies_waited j o.1 k
 
 module _ (s : Setup) (caps : List ℕ) (r : Req) where
-  placed_none : (b : Option Submission) (o : Option Submission) (e : Entry) → o ≡ None → placed_from b o ≡ Some e → ⊥
+  placed_none : (b : Option Submitted) (o : Option Submitted) (e : Entry) → o ≡ None → placed_from b o ≡ Some e → ⊥
   placed_none b o e none is = (let z = sym (ap (placed_from b) none) ∙ is in cc)
 
   -- what is placed was submitted, and stays placed so

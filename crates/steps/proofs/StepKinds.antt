@@ -1,6 +1,6 @@
 -- How a kind of step is proved: what the seat does at the state found is turned into what the table asks of the step.
 use mathlib.Core.Option as maybe
-use Rattle.steps.proofs.Common.{Act, Ages, Allows, At, Bool, Busy, Cause, CellOk, Empty, Event, Extends, Fair, Full, Home, Idle, IsCell, IsFree, IsIdleWord, IsReplied, IsStep, Layout, Legal, Line, List, Looks, None, NoneOf, Option, Orderly, Parcel, Phase, Req, Role, Ruled, Running, Says, Seated, Setup, Some, Spent, Step, Tag, Thing, Vacant, Valid, View, [], ap, apart, arith, before_in, carried_after, claim_at, cond, data_of, dite, either, eqb, events_of, exchanged, false, freed, get_elem?, get_or, gives, hit, holder, holders, inr, is_idle, is_leaving, keeps, length, length-set, lent, looked, none, note_at, noted, noticed, owns, phase, reaped, refl, replied, request_at, rest, ring_of, rings, runs, same, same_itself, same_true, seeing, set, set-get_or, set_else, set_here, setup_of, slot_at, some, stands_for, step, stepped, submits, subst, sure, sym, takes, tried, tried_idle, true, true≢false, unborn, unborn_yet, was_shut, word_of, workers, ℕ, ℕ_discrete, ℤ, ⊎_elim, ◌++◌, ◌<◌, ◌∙◌, ◌∷◌, ◌≡◌, ◌≢◌}
+use Rattle.steps.proofs.Common.{Act, Ages, Allows, At, Bool, Busy, Cause, CellOk, Empty, Event, Extends, Fair, Full, Home, Idle, IsCell, IsFree, IsIdleWord, IsReplied, IsStep, Layout, Legal, Line, List, Looks, None, NoneOf, Option, Orderly, Submission, Phase, Req, Role, Ruled, Running, Says, Seated, Setup, Some, Spent, Step, Tag, Thing, Vacant, Valid, View, [], ap, apart, arith, before_in, carried_after, claim_at, cond, data_of, dite, either, eqb, events_of, exchanged, false, freed, get_elem?, get_or, gives, hit, holder, holders, inr, is_idle, is_leaving, keeps, length, length-set, lent, looked, none, note_at, noted, noticed, owns, phase, reaped, refl, replied, request_at, rest, ring_of, rings, runs, same, same_itself, same_true, seeing, set, set-get_or, set_else, set_here, setup_of, slot_at, some, stands_for, step, stepped, submits, subst, sure, sym, takes, tried, tried_idle, true, true≢false, unborn, unborn_yet, was_shut, word_of, workers, ℕ, ℕ_discrete, ℤ, ⊎_elim, ◌++◌, ◌<◌, ◌∙◌, ◌∷◌, ◌≡◌, ◌≢◌}
 use Rattle.steps.proofs.CellNumbers.{one_word, other_age, other_cell}
 use Rattle.steps.proofs.Roles.{idle_apart, same_sym, worker_is}
 use Rattle.steps.proofs.JournalGrowth.{about, begins, ran, replied_by, legal_before, still_runs, still_reaped, still_replied, still_data, same_submits, same_lent, same_before, Lasting, lasts}
@@ -13,8 +13,8 @@ abbrev pub in_hand : List (ℕ × Option Thing) → Option Thing
 in_hand [] = None
 in_hand (x ∷ xs) = x.1
 
-pub same_parcel : (p q : Parcel) → Some (Full p) ≡ Some (Full q) → p ≡ q
-same_parcel p q e = cc
+pub same_submission : (p q : Submission) → Some (Full p) ≡ Some (Full q) → p ≡ q
+same_submission p q e = cc
 
 pub either_way : (n m : ℕ) (A : Type 0) → (n ≡ m → A) → (n ≢ m → A) → A
 either_way n m A hit miss = dite (ℕ_discrete n m) hit miss

@@ -2,7 +2,7 @@
 use Rattle.atomic_table.specs.Seated.{TableId}
 use Rattle.atomic_table.specs.declared.shared.Seat.{Seat}
 use Rattle.steps.specs.Rule.{Fits}
-use Rattle.steps.proofs.Common.{Cause, Entry, Event, Extends, IsCell, IsFree, IsParcel, IsPlaced, Layout, Legal, Lending, Line, List, Option, Orderly, Parcel, Req, Role, Setup, Some, Submitter, Thing, Vacant, View, ap, arith, before_in, eq-eqb, events_of, false, note_at, noted, phase, refl, replied, request_at, ring_of, rings, setup_of, stands_for, stores, submission, submits, subst, sym, true, was_shut, ℕ, ℤ, ◌++◌, ◌<◌, ◌∙◌, ◌∷◌, ◌≡◌}
+use Rattle.steps.proofs.Common.{Cause, Entry, Event, Extends, IsCell, IsFree, IsSubmission, IsPlaced, Layout, Legal, Lending, Line, List, Option, Orderly, Submission, Req, Role, Setup, Some, Submitter, Thing, Vacant, View, ap, arith, before_in, eq-eqb, events_of, false, note_at, noted, phase, refl, replied, request_at, ring_of, rings, setup_of, stands_for, stores, submission, submits, subst, sym, true, was_shut, ℕ, ℤ, ◌++◌, ◌<◌, ◌∙◌, ◌∷◌, ◌≡◌}
 use Rattle.steps.proofs.FreeCells.{free_later, same_noted}
 use Rattle.steps.proofs.JournalGrowth.{submitted_in, submission_lasts, legal_before, counted_in, placed_lasts, lasts, still_reaped, still_replied, same_submits, same_before}
 
@@ -19,8 +19,8 @@ pub submitter_can : (v : View) (i : ℕ) → v.role ≡ Submitter i → stands_f
 submitter_can v i is = ap (λ (z : Role). stands_for z (rings i)) is ∙ eq-eqb i i refl
 
 -- what was handed in is known from then on
-pub parcel_after : (v w : View) (l : Line) (role : Role) → Extends v l role w → (r : Req) (data' : List ℕ) (p : Parcel) → IsParcel v.seen r data' p → IsParcel w.seen r data' p
-parcel_after v w l role x r data' p k =
+pub submission_after : (v w : View) (l : Line) (role : Role) → Extends v l role w → (r : Req) (data' : List ℕ) (p : Submission) → IsSubmission v.seen r data' p → IsSubmission w.seen r data' p
+submission_after v w l role x r data' p k =
     let S : Setup = setup_of v.layout in let seen : w.seen ≡ (l ∷ x.saw.later) ++ v.seen = ap (λ (z : View). z.seen) x.is ∙ ap (λ (j : List Line). l ∷ j) x.saw.is in
     let legal : Legal S (events_of ((l ∷ x.saw.later) ++ v.seen)) = subst (λ (j : List Line). Legal S (events_of (l ∷ j))) x.saw.is x.legal in
     let born : r.k < submits (events_of v.seen) r.ring = submitted_in S v.seen r _ (legal_before S (l ∷ x.saw.later) v.seen legal) k.1 in

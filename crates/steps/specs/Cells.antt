@@ -11,9 +11,9 @@ use Rattle.entry.specs.Entry.{Entry, fails}
 use Rattle.history.specs.declared.req.Req.{Req}
 use Rattle.history.specs.{Cause, by_reply, by_take, by_expire, by_count, by_fire, by_settle, by_sever, by_cut, submission, unborn, waits, runs, armed, replied, reaped, phase, data_of, is_timer, IsPlaced, Open, Flow, flow, content, untouched, Setup, IsOf}
 use Rattle.steps.specs.declared.line.Line.{Line}
-use Rattle.steps.specs.declared.parcel.Parcel.{Parcel}
-use Rattle.steps.specs.declared.parcel.Thing.{Thing}
-use Rattle.steps.specs.declared.parcel.Thing.TheVariants.{Full, Piped}
+use Rattle.steps.specs.declared.slot.Submission.{Submission}
+use Rattle.steps.specs.declared.slot.Thing.{Thing}
+use Rattle.steps.specs.declared.slot.Thing.TheVariants.{Full, Piped}
 use Rattle.steps.specs.declared.view.Layout.{Layout}
 use Rattle.steps.specs.Journal.{events_of, freed, lent, holder, lying}
 
@@ -107,13 +107,13 @@ Home = maybe.Option (maybe.Option (Option Thing))
 abbrev pub over : List ℕ → List ℕ → List ℕ
 over data' bytes = data' ++ drop (length data') bytes
 
--- the parcel is what was handed in as r, with these data over the front of its buffer
-abbrev pub IsParcel : List Line → Req → List ℕ → Parcel → Type 0
-IsParcel j r data' p = (bytes : List ℕ) × (submission (events_of j) r ≡ Some (record { entry = p.sqe; bytes = bytes; last = p.last })) × (p.buffer.items ≡ over data' bytes)
+-- the submission is what was handed in as r, with these data over the front of its buffer
+abbrev pub IsSubmission : List Line → Req → List ℕ → Submission → Type 0
+IsSubmission j r data' p = (bytes : List ℕ) × (submission (events_of j) r ≡ Some (record { entry = p.sqe; bytes = bytes; last = p.last })) × (p.buffer.items ≡ over data' bytes)
 
 -- the slot is at home and has what was handed in
 abbrev pub Keeps : List Line → Req → Home → List ℕ → Type 0
-Keeps j r home data' = (p : Parcel) × (home ≡ some (some (Some (Full p)))) × IsParcel j r data' p
+Keeps j r home data' = (p : Submission) × (home ≡ some (some (Some (Full p)))) × IsSubmission j r data' p
 
 -- earlier generations were reaped, and later ones not yet submitted
 pub record Ages (K : List ℕ) (j : List Line) (x g : ℕ) : Type 0 where

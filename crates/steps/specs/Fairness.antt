@@ -4,7 +4,7 @@ use Rattle.entry.specs.Entry.{Entry, fails}
 use Rattle.history.specs.declared.req.Req.{Req}
 use Rattle.history.specs.declared.event.Event.{Event}
 use Rattle.history.specs.declared.event.Event.TheVariants.{Submit, Park, Reply, Reap}
-use Rattle.history.specs.{Cause, Phase, unborn, waits, replied, reaped, Submission, submission, phase, reply, hit, nothing, placed, Open, is_timer, is_timeout, IsPlaced, IsChainDone, OpAnswers, is_pipe, uses_at, uses_at_in, flow, IsOf, count_of}
+use Rattle.history.specs.{Cause, Phase, unborn, waits, replied, reaped, Submitted, submission, phase, reply, hit, nothing, placed, Open, is_timer, is_timeout, IsPlaced, IsChainDone, OpAnswers, is_pipe, uses_at, uses_at_in, flow, IsOf, count_of}
 use Rattle.steps.specs.declared.line.Laid.{Laid}
 use Rattle.steps.specs.declared.line.Laid.TheVariants.{NoRequest}
 use Rattle.steps.specs.declared.line.Line.{Line}
@@ -35,7 +35,7 @@ abbrev pub AreNoted : List ℕ → List Line → Req → Entry → List ℕ → 
 AreNoted K j r e bytes last = (x : ℕ) × (g : ℕ) × (d : Entry) × IsIn K r x g × IsPlaced (Submit r e bytes last ∷ events_of j) r d × (noted j (facts_at x) ≡ facts_of g d last) × (noted j (user_at x) ≡ e.user_data) × IsCountNoted j x d
 
 -- what the notes of the cell x say of its request of generation g, which was handed in as y and is placed as d: its facts, or, once its slot is out for the Reap, its facts with the outcome; its user_data; and the count of a TIMEOUT
-pub record NotesSay (K : List ℕ) (j : List Line) (x g : ℕ) (y : Submission) (d : Entry) : Type 0 where
+pub record NotesSay (K : List ℕ) (j : List Line) (x g : ℕ) (y : Submitted) (d : Entry) : Type 0 where
   pub facts : lent j (request_at K x g) ≡ false → noted j (facts_at x) ≡ facts_of g d y.last
   pub outcome : (c : Cause) (res : ℤ) → phase (events_of j) (request_at K x g) ≡ replied c res → lent j (request_at K x g) ≡ true → noted j (facts_at x) ≡ outcome_of (facts_of g d y.last) (fails d res)
   pub user_data : noted j (user_at x) ≡ y.entry.user_data
@@ -43,16 +43,16 @@ pub record NotesSay (K : List ℕ) (j : List Line) (x g : ℕ) (y : Submission) 
 
 -- the same of the request of the cell that was submitted and not reaped
 abbrev pub NotesTell : List ℕ → List Line → ℕ → Type 0
-NotesTell K j x = (g : ℕ) (y : Submission) (d : Entry) → submission (events_of j) (request_at K x g) ≡ Some y → IsPlaced (events_of j) (request_at K x g) d → ¬ IsReaped (phase (events_of j) (request_at K x g)) → NotesSay K j x g y d
+NotesTell K j x = (g : ℕ) (y : Submitted) (d : Entry) → submission (events_of j) (request_at K x g) ≡ Some y → IsPlaced (events_of j) (request_at K x g) d → ¬ IsReaped (phase (events_of j) (request_at K x g)) → NotesSay K j x g y d
 
 -- what the facts of the cell x say of its request of generation g once that was reaped: while they are its own they have its outcome, and once they are another one's its whole chain has replied
-pub record FactsLeft (K : List ℕ) (j : List Line) (x g : ℕ) (y : Submission) (d : Entry) : Type 0 where
+pub record FactsLeft (K : List ℕ) (j : List Line) (x g : ℕ) (y : Submitted) (d : Entry) : Type 0 where
   pub outcome : (res : ℤ) → reply (events_of j) (request_at K x g) ≡ Some res → noted j (facts_at x) % 16777216 ≡ g → noted j (facts_at x) ≡ outcome_of (facts_of g d y.last) (fails d res)
   pub done : ¬ (noted j (facts_at x) % 16777216 ≡ g) → IsChainDone (events_of j) (request_at K x g)
 
 -- the same of each request of the cell that was reaped
 abbrev pub FactsTell : List ℕ → List Line → ℕ → Type 0
-FactsTell K j x = (g : ℕ) (y : Submission) (d : Entry) → g < 16777216 → submission (events_of j) (request_at K x g) ≡ Some y → IsPlaced (events_of j) (request_at K x g) d → IsReaped (phase (events_of j) (request_at K x g)) → FactsLeft K j x g y d
+FactsTell K j x = (g : ℕ) (y : Submitted) (d : Entry) → g < 16777216 → submission (events_of j) (request_at K x g) ≡ Some y → IsPlaced (events_of j) (request_at K x g) d → IsReaped (phase (events_of j) (request_at K x g)) → FactsLeft K j x g y d
 
 -- a store of the facts takes the slot: of a request that comes to a cell that is free for it, or of one that has replied, with the outcome
 abbrev pub IsFactsNote : List ℕ → List Line → Req → ℕ → ℕ → Phase → Type 0

@@ -6,7 +6,7 @@ pub mod Plays
 pub mod Rule
 pub mod Sleepers
 pub mod FactsTold
-pub use Rattle.steps.specs.Cells.{Ages, AreNewSlots, CellOk, Home, IsCapacity, IsCell, IsParcel, Keeps, MayBegin, PipeIn, PipeIs, PipeOk, PipeSays, Says, cause_bits, cells_in, claim_at, count_at, facts_at, note_at, over, pipe_at, place_of, reply_bits, request_at, ring_of, setup_of, slot_at, slots_of, stands, total, user_at, word_of, words_of}
+pub use Rattle.steps.specs.Cells.{Ages, AreNewSlots, CellOk, Home, IsCapacity, IsCell, IsSubmission, Keeps, MayBegin, PipeIn, PipeIs, PipeOk, PipeSays, Says, cause_bits, cells_in, claim_at, count_at, facts_at, note_at, over, pipe_at, place_of, reply_bits, request_at, ring_of, setup_of, slot_at, slots_of, stands, total, user_at, word_of, words_of}
 pub use Rattle.steps.specs.FactsTold.{AreFacts, TellsFacts}
 pub use Rattle.steps.specs.Fairness.{AreNoted, FactsLeft, FactsTell, Fair, HasNone, HasWaited, IsCountNoted, IsFactsNote, IsFree, IsIn, IsReaped, MayLay, NotesSay, NotesTell, Orderly}
 pub use Rattle.steps.specs.Journal.{event_of, events_of, freed, frees, goes_out, holder, is_holder, lays, lends, lent, lying, noted, stores}

@@ -12,16 +12,16 @@ use Rattle.history.specs.{Cause, phase, replied, data_of, submission, IsPlaced, 
 use Rattle.steps.specs.declared.line.Laid.{Laid}
 use Rattle.steps.specs.declared.line.Line.{Line}
 use Rattle.steps.specs.declared.line.Line.TheVariants.{Did, Freed, Lent, Noted, Hold, Free}
-use Rattle.steps.specs.declared.parcel.Parcel.{Parcel}
-use Rattle.steps.specs.declared.parcel.WaitedPipe.{WaitedPipe}
-use Rattle.steps.specs.declared.parcel.Thing.{Thing}
-use Rattle.steps.specs.declared.parcel.Thing.TheVariants.{Full, Piped}
+use Rattle.steps.specs.declared.slot.Submission.{Submission}
+use Rattle.steps.specs.declared.slot.WaitedPipe.{WaitedPipe}
+use Rattle.steps.specs.declared.slot.Thing.{Thing}
+use Rattle.steps.specs.declared.slot.Thing.TheVariants.{Full, Piped}
 use Rattle.steps.specs.declared.view.Layout.{Layout}
 use Rattle.steps.specs.declared.view.Role.{Role}
 use Rattle.steps.specs.declared.view.Role.TheVariants.{Submitter, Lending, Idle, Busy, Leaving, Parting}
 use Rattle.steps.specs.declared.view.View.{View}
 use Rattle.steps.specs.Journal.{events_of, noted, holder, lays, lying}
-use Rattle.steps.specs.Cells.{IsCell, request_at, word_of, claim_at, note_at, facts_at, pipe_at, slot_at, reply_bits, IsParcel, stands, PipeIs}
+use Rattle.steps.specs.Cells.{IsCell, request_at, word_of, claim_at, note_at, facts_at, pipe_at, slot_at, reply_bits, IsSubmission, stands, PipeIs}
 use Rattle.steps.specs.Rule.{Looks, Extends, Shown, Vacant, IsStep, leaves, leaves_one}
 
 abbrev pub Seated : Type 0
@@ -107,14 +107,14 @@ clock_set st m n m' = st.word ≡ 0 → (Extends m.0 (Did (Tick st.first)) m.0.r
 
 -- the slot has what was handed in, with these data over its front
 abbrev pub Hands : Seated → ℕ → Req → List ℕ → List (ℕ × Option Thing) → Type 0
-Hands m x r data' others = (p : Parcel) × (m.1 ≡ (slot_at x, Some (Full p)) ∷ others) × IsParcel m.0.seen r data' p
+Hands m x r data' others = (p : Submission) × (m.1 ≡ (slot_at x, Some (Full p)) ∷ others) × IsSubmission m.0.seen r data' p
 
 abbrev pub began : At → Seated → ℕ → Req → Seated → Type 0
 began st m x r m' = Extends m.0 (Did (Begin r)) (Busy r) m'.0 × Hands m' x r [] m.1 × ((p : ℕ) → holder m'.0.seen p ≢ Some r)
 
--- the slot that was taken last is given back with the parcel
+-- the slot that was taken last is given back with the submission
 abbrev pub submitted : At → Seated → ℕ → Req → Seated → Type 0
-submitted st m x r m' = (p : Parcel) → m.1 ≡ (slot_at x, Some (Full p)) ∷ rest m.1 → Extends m.0 (Did (Submit r p.sqe p.buffer.items p.last)) (Submitter r.ring) m'.0 × (m'.1 ≡ rest m.1)
+submitted st m x r m' = (p : Submission) → m.1 ≡ (slot_at x, Some (Full p)) ∷ rest m.1 → Extends m.0 (Did (Submit r p.sqe p.buffer.items p.last)) (Submitter r.ring) m'.0 × (m'.1 ≡ rest m.1)
 
 -- the new word has the result, which is the entry's reply with these data; the seat has this role after it
 abbrev pub replied_with : (Req → Role) → At → Seated → ℕ → Req → Seated → Type 0
@@ -207,4 +207,4 @@ pub record MayReply (m : Seated) (x : ℕ) (q : Req) (e : Entry) (res : ℤ) (da
   pub placed_is : IsPlaced (events_of m.0.seen) q e
   pub answers : OpAnswers m.0.layout.caps (events_of m.0.seen) q e.op res data'
   pub has : (p : ℕ) → is_pipe m.0.layout.caps p ≡ true → uses_at e.op p ≡ true → holder m.0.seen p ≡ Some q
-  pub parcel : Hands m x q data' (rest m.1)
+  pub submission : Hands m x q data' (rest m.1)

@@ -1,6 +1,6 @@
 //! What a submitter notes of its request: the word of facts, and the count of a TIMEOUT.
 ghost use Rattle.std.specs.Prelude.{◌≡◌, ℕ, ◌+◌, ◌*◌, ◌<◌, Option};
-ghost use Rattle.history.specs.{Submission, hosts, placed_behind};
+ghost use Rattle.history.specs.{Submitted, hosts, placed_behind};
 ghost use Rattle.steps.specs.Notes.{count_in, etime_in, facts_of, row_number, ticks_in};
 
 use claim::{FactsWord, pack_facts};
@@ -122,7 +122,7 @@ fn etime_in(op: Op) -> bool
 /// The facts of a request of this generation, as it is placed: a LINK_TIMEOUT as Invalid, unless the entry before it hosts one.
 pub(crate) fn facts(generation: u32, sqe: &Sqe, last: bool, hosted: bool) -> u64
     requires { generation < 16777216 }
-    ensures facts { (before : Option Submission) → hosted ≡ hosts before → result ≡ facts_of generation (placed_behind before sqe.now) last }
+    ensures facts { (before : Option Submitted) → hosted ≡ hosts before → result ≡ facts_of generation (placed_behind before sqe.now) last }
     ensures generation { (n : ℕ) × (result ≡ generation + 16777216 * n) }
 {
     let misplaced = sqe.op().is_link_timeout() && !hosted;

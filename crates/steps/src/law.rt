@@ -1,5 +1,5 @@
 //! The rule of the table, and what it is told when the table is made.
-use crate::parcel::Thing;
+use crate::slot::Thing;
 use crate::view::View;
 use atomic_table::TableRule;
 use std::snapshot::Snapshot;

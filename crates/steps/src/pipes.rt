@@ -187,7 +187,7 @@ fn leave_both(words: &Words, seat: &mut TableSeat, first: usize, second: usize)
 }
 
 /// Replies to the request that this seat runs, and gives back its two pipes, which are already what the reply makes of them:
-/// `first`, which lies right below the parcel, and then `second`, which lies below that.
+/// `first`, which lies right below the submission, and then `second`, which lies below that.
 #[inline(always)]
 pub fn reply_both(
     words: &Words,

@@ -4,7 +4,7 @@ ghost use Rattle.steps.specs.declared.line.Laid.TheVariants.{NoRequest, Behind, 
 ghost use Rattle.steps.specs.declared.view.Role.TheVariants.{Idle, Leaving};
 ghost use Rattle.steps.specs.{looked, tried, tried_idle, sure, released, severed, armed_for, expired, counted, settled, fired_at, fired_late, taken, missed, clock_set, began, submitted, replied_with, parked, reaps, noticed, opened, noted_more, emptied, pipe_taken, pipe_returned, pipe_left, pipe_left_first, pipe_left_last, without_next, without_one, next_submitter, idle_one, messenger, hearing, spent_view};
 
-use crate::parcel::Thing;
+use crate::slot::Thing;
 use crate::view::View;
 use atomic_table::{Join, Play, Split};
 

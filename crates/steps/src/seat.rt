@@ -129,7 +129,7 @@ pub fn park(words: &Words, seat: &mut TableSeat, cell: usize, generation: u32)
     requires fits { Fits words.now.table_id seat.old cell }
     requires small { generation < 16777216 }
     requires busy { seat.old.me.0.role ≡ Busy (request_at seat.old.me.0.layout.cells cell generation) }
-    requires parcel { Hands seat.old.me cell (request_at seat.old.me.0.layout.cells cell generation) [] (rest seat.old.me.1) }
+    requires submission { Hands seat.old.me cell (request_at seat.old.me.0.layout.cells cell generation) [] (rest seat.old.me.1) }
     requires unhit { hit (events_of seat.old.me.0.seen) (request_at seat.old.me.0.layout.cells cell generation) ≡ nothing }
     requires bare { (p : ℕ) → holder seat.old.me.0.seen p ≢ Some (request_at seat.old.me.0.layout.cells cell generation) }
     ensures seat { IsSameSeat seat.old seat.new × (seat.new.me.1 ≡ rest seat.old.me.1) }

@@ -8,8 +8,8 @@ ghost use Rattle.steps.specs.{total, IsCapacity, AreNewSlots, words_of, stands_f
 
 use crate::law::{About, Law};
 use crate::layout::{PIPES, words_of};
-use crate::parcel::{Thing, WaitedPipe};
 use crate::plays::{CutMessenger, CutSubmitter, CutWorker, Hear};
+use crate::slot::{Thing, WaitedPipe};
 use crate::view::View;
 use atomic_table::{Closed, Seat, Shared, Table};
 use pipe::{Pipe, PipeError};

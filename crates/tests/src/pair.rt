@@ -1,9 +1,10 @@
 //! A runtime of two rings on real threads, with both of its clients in one thread.
-ghost use Rattle.std.specs.Prelude.{◌≡◌, [], IfOk};
+ghost use Rattle.std.specs.Prelude.{◌≡◌, ◌≤◌, [], IfOk, length, vec_capacity};
+ghost use Rattle.runtime.specs.{AreClients};
 
 use crate::batches::{Entry, batch_of};
 use board::{Completion, Report, RingShape, Shape};
-use controls::{Clock, Turnstile};
+use controls::{NoClock, Turnstile};
 use history::Req;
 use runtime::{Client, Runtime, join_all, join_at_rest, start};
 use std::alloc::{AllocError, Global};
@@ -21,28 +22,30 @@ const CELLS: u32 = 4;
 
 const POSTS: u32 = 1;
 
-/// A runtime and the clients of its rings 0 and 1.
-#[derive(Drop)]
-pub(crate) struct Pair<C: Clock> {
+/// A runtime, the clients of its rings 0 and 1, and an empty list with room for both. It is ended, never dropped.
+pub(crate) struct Pair {
     alloc: Global,
-    runtime: Runtime<C>,
+    runtime: Runtime<NoClock>,
     zero: Client,
     one: Client,
+    room: Vec<Client>,
 }
 
-impl<C: Clock> Model for Pair<C> {
-    ghost use Rattle.std.specs.Prelude.{◌≡◌};
+impl Model for Pair {
+    ghost use Rattle.std.specs.Prelude.{◌≡◌, ◌≤◌, [], vec_capacity};
     ghost use Rattle.work.specs.Board.{Facts};
 
     ghost Value = { Facts };
 
     ghost view = { λ p. p.runtime.board };
 
-    ghost invariant = { λ p. (p.zero.board ≡ p.runtime.board) × (p.one.board ≡ p.runtime.board) };
+    ghost invariant = { λ p. (p.zero.board ≡ p.runtime.board) × (p.one.board ≡ p.runtime.board) × ((p.room.items ≡ []) × (2 ≤ vec_capacity p.room)) };
 }
 
 /// Two rings, as many pipes of 16 bytes as a board may have, and so many workers.
-fn shape_of(alloc: Global, workers: u32) -> Result<Shape, AllocError> {
+fn shape_of(alloc: Global, workers: u32) -> Result<Shape, AllocError>
+    ensures { IfOk result (λ s. length s.rings.items ≡ 2) }
+{
     let ring = RingShape {
         cells: CELLS,
         posts: Some(POSTS),
@@ -98,12 +101,14 @@ fn shown(alloc: Global, completion: Completion) -> Result<String, Fail> {
 }
 
 /// The lines of a report, as text: each request, its result, and whether the end cut it off.
-fn told(alloc: Global, report: &Report) -> Result<String, Fail> {
+fn told(alloc: Global, report: &Report) -> Result<String, &'static str> {
     let mut text = String::new(alloc);
     for (completion, is_cut) in report.lines() {
         let req = completion.req;
         let res = completion.cqe.res;
-        write!(text, "{}.{} {res} {is_cut};", req.ring, req.k)?;
+        if write!(text, "{}.{} {res} {is_cut};", req.ring, req.k).is_err() {
+            return Err("no memory was found");
+        }
     }
     Ok(text)
 }
@@ -119,38 +124,31 @@ fn submitted(alloc: Global, client: &mut Client, entries: &[Entry]) -> Result<Re
     }
 }
 
-impl<C: Clock + Send + Drop + 'static> Pair<C> {
-    /// A started runtime.
+impl Pair {
+    /// A started runtime, whose clock stands still.
     pub fn new<
         R: Threads + Wait + Copy + Send + 'static,
         G: Turnstile + Send + Sync + Drop + 'static,
-    >(
-        rt: R,
-        alloc: Global,
-        workers: u32,
-        idle: u32,
-        turnstile: G,
-        clock: C,
-    ) -> Result<Pair<C>, Fail>
-        requires { C.follows clock [] }
-    {
+    >(rt: R, alloc: Global, workers: u32, idle: u32, turnstile: G) -> Result<Pair, Fail> {
         let shape = shape_of(alloc, workers)?;
-        let Ok((runtime, mut clients)) = start(rt, alloc, &shape, idle, turnstile, clock) else {
+        let Ok((runtime, mut room)) = start(rt, alloc, &shape, idle, turnstile, NoClock) else {
             return Err(Fail::new("the runtime isn't started"));
         };
-        let (Some(one), Some(zero)) = (clients.pop(), clients.pop()) else {
-            return Err(Fail::new("the clients"));
+        let Some(one) = room.pop() else {
+            unreachable!()
+        };
+        let Some(zero) = room.pop() else {
+            unreachable!()
         };
         Ok(Pair {
             alloc,
             runtime,
             zero,
             one,
+            room,
         })
     }
-}
 
-impl<C: Clock + Drop> Pair<C> {
     /// Submits the entries in one batch to ring 0, or to ring 1.
     pub fn submit(&mut self, ring: u16, entries: &[Entry]) -> Result<Req, Fail> {
         if ring == 0 {
@@ -197,40 +195,44 @@ impl<C: Clock + Drop> Pair<C> {
         taken_now(rt, self.alloc, &mut self.zero, count)
     }
 
-    /// Ends the runtime. The lines of its report: each request, its result, and whether the end cut it off.
-    pub fn end<R: Threads + Wait>(self, rt: &R) -> Result<String, Fail> {
+    /// What it has: its runtime, and its clients in a list.
+    fn parts(self) -> (Global, Runtime<NoClock>, Vec<Client>)
+        ensures { AreClients result.1.board result.2.items }
+    {
         let Pair {
             alloc,
             runtime,
             zero,
             one,
+            mut room,
         } = self;
-        let mut clients = Vec::new(alloc);
-        clients.push(one)?;
-        clients.push(zero)?;
-        let Ok(report) = join_all(rt, alloc, runtime, clients) else {
-            return Err(Fail::new("the runtime isn't ended"));
-        };
-        told(alloc, &report)
+        room.push_reserved(one);
+        room.push_reserved(zero);
+        (alloc, runtime, room)
     }
 
-    /// Ends the runtime once it is at rest. The lines of its report, as `end` tells them.
-    pub fn end_at_rest<R: Threads + Wait>(self, rt: &R) -> Result<String, Fail> {
-        let Pair {
-            alloc,
-            runtime,
-            zero,
-            one,
-        } = self;
-        let mut clients = Vec::new(alloc);
-        clients.push(one)?;
-        clients.push(zero)?;
-        let Ok(rested) = join_at_rest(rt, alloc, runtime, clients) else {
-            return Err(Fail::new("the runtime isn't ended"));
-        };
-        if !rested.is_at_rest {
-            return Err(Fail::new("the runtime isn't at rest"));
+    /// Ends the runtime. The lines of its report: each request, its result, and whether the end cut it off.
+    pub fn end<R: Threads + Wait>(self, rt: &R) -> Result<String, &'static str> {
+        let (alloc, runtime, clients) = self.parts();
+        match join_all(rt, alloc, runtime, clients) {
+            Ok(report) => told(alloc, &report),
+            Err(unjoined) => {
+                unjoined.abandon(rt);
+                Err("the runtime isn't ended")
+            }
         }
-        told(alloc, &rested.report)
+    }
+
+    /// Ends the runtime once it is at rest. The lines of its report, as `end` gives them.
+    pub fn end_at_rest<R: Threads + Wait>(self, rt: &R) -> Result<String, &'static str> {
+        let (alloc, runtime, clients) = self.parts();
+        match join_at_rest(rt, alloc, runtime, clients) {
+            Ok(rested) if rested.is_at_rest => told(alloc, &rested.report),
+            Ok(_) => Err("the runtime isn't at rest"),
+            Err(unjoined) => {
+                unjoined.abandon(rt);
+                Err("the runtime isn't ended")
+            }
+        }
     }
 }

@@ -37,7 +37,7 @@ impl Clock for Once {
         None
     }
 
-    fn tell(&mut self, _now: u32, _phase: Option<Phase>) -> Option<u32> {
+    fn advance(&mut self, _now: u32, _phase: Option<Phase>) -> Option<u32> {
         self.to.take()
     }
 }
@@ -57,7 +57,7 @@ impl Clock for WhenArmed {
         Some(self.req)
     }
 
-    fn tell(&mut self, _now: u32, phase: Option<Phase>) -> Option<u32> {
+    fn advance(&mut self, _now: u32, phase: Option<Phase>) -> Option<u32> {
         match phase {
             Some(Phase::Armed(deadline)) => Some(deadline),
             _ => None,

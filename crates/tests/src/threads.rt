@@ -1,7 +1,7 @@
 //! Runtimes on real threads: what their clients take, and what their reports tell.
 use crate::batches::Entry;
 use crate::pair::Pair;
-use controls::{Hold, Holds, NoClock, Open, Point};
+use controls::{Hold, Holds, Open, Point, Turnstile};
 use entry::Sqe;
 use history::Req;
 use prep::{cancel, close, nop, read, timeout, write};
@@ -14,6 +14,18 @@ use std::time::{Clock, Duration};
 
 /// IOSQE_IO_LINK.
 const LINK: u8 = 4;
+
+/// So many rounds, one after another, until one goes wrong: whether none did.
+macro_rules! rounds {
+    ($count:expr, $number:ident, $round:expr) => {{
+        for $number in 0..$count {
+            if !$round? {
+                return Ok(false);
+            }
+        }
+        Ok(true)
+    }};
+}
 
 fn nth(ring: u16, k: u64) -> Req {
     Req { ring, k }
@@ -31,7 +43,7 @@ fn entry(sqe: Sqe, flags: u8, user_data: u64, bytes: u8, first: u8) -> Entry {
 }
 
 /// A WRITE of ring 1 and a READ linked to it, whether both transfer three bytes.
-fn goes_through<R: Wait>(pair: &mut Pair<NoClock>, rt: &R) -> Result<bool, Fail> {
+fn goes_through<R: Wait>(pair: &mut Pair, rt: &R) -> Result<bool, Fail> {
     let batch = [
         entry(write(1, 3, 0), LINK, 31, 3, 7),
         entry(read(0, 5, 0), 0, 32, 5, 60),
@@ -50,14 +62,14 @@ fn goes_through<R: Wait>(pair: &mut Pair<NoClock>, rt: &R) -> Result<bool, Fail>
 
 #[test]
 fn a_linked_write_and_read_go_through_the_pipe(rt: HostRuntime) -> Result<(), Fail> {
-    let mut pair = Pair::new(rt, rt.alloc(), 2, 3, Open, NoClock)?;
-    assert!(rt; goes_through(&mut pair, &rt)?);
-    assert!(rt; reports(pair, &rt, &[""])?);
+    let mut pair = Pair::new(rt, rt.alloc(), 2, 3, Open)?;
+    let went = goes_through(&mut pair, &rt);
+    assert!(rt; reports(pair, &rt, went, &[""])?);
     Ok(())
 }
 
 /// Two NOPs, whether the second one's completion comes first.
-fn comes_second_first<R: Wait>(pair: &mut Pair<NoClock>, rt: &R) -> Result<bool, Fail> {
+fn comes_second_first<R: Wait>(pair: &mut Pair, rt: &R) -> Result<bool, Fail> {
     let batch = [entry(nop(), 0, 41, 0, 0), entry(nop(), 0, 42, 0, 0)];
     let req = pair.submit(0, &batch)?;
     let (one, other) = (pair.take(rt, 0)?, pair.take(rt, 0)?);
@@ -68,15 +80,15 @@ fn comes_second_first<R: Wait>(pair: &mut Pair<NoClock>, rt: &R) -> Result<bool,
 fn a_request_is_held_until_another_thread_has_posted(rt: HostRuntime) -> Result<(), Fail> {
     let mut holds = Vec::new(rt.alloc());
     holds.push(Hold::new((Point::Run, nth(0, 0)), (Point::Post, nth(0, 1))))?;
-    let mut pair = Pair::new(rt, rt.alloc(), 2, 1, Holds { holds }, NoClock)?;
-    assert!(rt; comes_second_first(&mut pair, &rt)?);
-    assert!(rt; reports(pair, &rt, &[""])?);
+    let mut pair = Pair::new(rt, rt.alloc(), 2, 1, Holds { holds })?;
+    let went = comes_second_first(&mut pair, &rt);
+    assert!(rt; reports(pair, &rt, went, &[""])?);
     Ok(())
 }
 
 /// A NOP after the poller has gone to sleep, whether it is answered.
 fn wakes_the_poller<R: Wait>(
-    pair: &mut Pair<NoClock>,
+    pair: &mut Pair,
     rt: &R,
     alloc: Global,
     round: u64,
@@ -90,13 +102,16 @@ fn wakes_the_poller<R: Wait>(
     Ok(req == nth(0, round) && told.as_str() == wanted.as_str())
 }
 
+/// Twenty of them.
+fn wakes_twenty_times<R: Wait>(pair: &mut Pair, rt: &R, alloc: Global) -> Result<bool, Fail> {
+    rounds!(20u64, number, wakes_the_poller(pair, rt, alloc, number))
+}
+
 #[test]
 fn a_sleeper_is_back_after_it_was_rung(rt: HostRuntime) -> Result<(), Fail> {
-    let mut pair = Pair::new(rt, rt.alloc(), 1, 0, Open, NoClock)?;
-    for round in 0..20u64 {
-        assert!(rt; wakes_the_poller(&mut pair, &rt, rt.alloc(), round)?);
-    }
-    assert!(rt; reports(pair, &rt, &[""])?);
+    let mut pair = Pair::new(rt, rt.alloc(), 1, 0, Open)?;
+    let went = wakes_twenty_times(&mut pair, &rt, rt.alloc());
+    assert!(rt; reports(pair, &rt, went, &[""])?);
     Ok(())
 }
 
@@ -118,7 +133,7 @@ fn is_one_of(text: &str, texts: &[&str]) -> bool {
 }
 
 /// A READ and a TIMEOUT of ring 0 and two NOPs of ring 1, of which it takes one.
-fn takes_one<R: Wait>(pair: &mut Pair<NoClock>, rt: &R) -> Result<bool, Fail> {
+fn takes_one<R: Wait>(pair: &mut Pair, rt: &R) -> Result<bool, Fail> {
     let batch = [
         entry(read(0, 4, 0), 0, 51, 4, 1),
         entry(timeout(9, 0), 0, 52, 0, 0),
@@ -130,27 +145,31 @@ fn takes_one<R: Wait>(pair: &mut Pair<NoClock>, rt: &R) -> Result<bool, Fail> {
     Ok(zero == nth(0, 0) && one == nth(1, 0))
 }
 
-/// Ends a runtime. Whether its report is one of these.
-fn reports<R: Threads + Wait>(pair: Pair<NoClock>, rt: &R, wanted: &[&str]) -> Result<bool, Fail> {
-    let report = pair.end(rt)?;
-    Ok(is_one_of(report.as_str(), wanted))
+/// Ends a runtime. Whether all went well, and its report is one of these.
+fn reports<R: Threads + Wait>(
+    pair: Pair,
+    rt: &R,
+    went: Result<bool, Fail>,
+    wanted: &[&str],
+) -> Result<bool, Fail> {
+    let report = pair.end(rt);
+    let is_right = went?;
+    match report {
+        Ok(report) => Ok(is_right && is_one_of(report.as_str(), wanted)),
+        Err(why) => Err(Fail::new(why)),
+    }
 }
 
 #[test]
 fn the_report_has_what_nobody_took(rt: HostRuntime) -> Result<(), Fail> {
-    let mut pair = Pair::new(rt, rt.alloc(), 3, 5, Open, NoClock)?;
-    assert!(rt; takes_one(&mut pair, &rt)?);
-    assert!(rt; reports(pair, &rt, &REPORTS)?);
+    let mut pair = Pair::new(rt, rt.alloc(), 3, 5, Open)?;
+    let went = takes_one(&mut pair, &rt);
+    assert!(rt; reports(pair, &rt, went, &REPORTS)?);
     Ok(())
 }
 
 /// A NOP for which the client waits, whether it is answered.
-fn waits<R: Wait>(
-    pair: &mut Pair<NoClock>,
-    rt: &R,
-    alloc: Global,
-    round: u32,
-) -> Result<bool, Fail> {
+fn waits<R: Wait>(pair: &mut Pair, rt: &R, alloc: Global, round: u32) -> Result<bool, Fail> {
     let number = u64::from(round);
     let req = pair.submit(0, &[entry(nop(), 0, number + 7, 0, 0)])?;
     let wanted = format!(in alloc; "0.{number} {} 0", number + 7);
@@ -158,20 +177,23 @@ fn waits<R: Wait>(
     Ok(req == nth(0, number) && has_come)
 }
 
+/// Ten thousand of them.
+fn waits_often<R: Wait>(pair: &mut Pair, rt: &R, alloc: Global) -> Result<bool, Fail> {
+    rounds!(10_000u32, number, waits(pair, rt, alloc, number))
+}
+
 /// A put between a worker's last look and its sleep, a post between a client's, and a tail between the poller's: each wakes who sleeps.
 #[test]
 fn a_client_waits_ten_thousand_times(rt: HostRuntime) -> Result<(), Fail> {
-    let mut pair = Pair::new(rt, rt.alloc(), 2, 0, Open, NoClock)?;
-    for round in 0..10_000u32 {
-        assert!(rt; waits(&mut pair, &rt, rt.alloc(), round)?);
-    }
-    assert!(rt; reports(pair, &rt, &[""])?);
+    let mut pair = Pair::new(rt, rt.alloc(), 2, 0, Open)?;
+    let went = waits_often(&mut pair, &rt, rt.alloc());
+    assert!(rt; reports(pair, &rt, went, &[""])?);
     Ok(())
 }
 
 /// Whether the next completion of the ring is this one.
 fn comes<R: Wait>(
-    pair: &mut Pair<NoClock>,
+    pair: &mut Pair,
     rt: &R,
     ring: u16,
     wanted: Result<String, AllocError>,
@@ -183,7 +205,7 @@ fn comes<R: Wait>(
 
 /// A READ of ring 0 and a WRITE of ring 1, whether both transfer two bytes.
 fn writes_and_reads<R: Wait>(
-    pair: &mut Pair<NoClock>,
+    pair: &mut Pair,
     rt: &R,
     alloc: Global,
     round: u32,
@@ -198,20 +220,23 @@ fn writes_and_reads<R: Wait>(
     Ok(has_read && has_written)
 }
 
+/// Ten thousand of them.
+fn writes_and_reads_often<R: Wait>(pair: &mut Pair, rt: &R, alloc: Global) -> Result<bool, Fail> {
+    rounds!(10_000u32, number, writes_and_reads(pair, rt, alloc, number))
+}
+
 /// The WRITE comes before the READ finds the pipe empty, between that look and its park, or when it lies with the pipe.
 #[test]
 fn a_write_answers_the_other_clients_read_ten_thousand_times(rt: HostRuntime) -> Result<(), Fail> {
-    let mut pair = Pair::new(rt, rt.alloc(), 2, 0, Open, NoClock)?;
-    for round in 0..10_000u32 {
-        assert!(rt; writes_and_reads(&mut pair, &rt, rt.alloc(), round)?);
-    }
-    assert!(rt; reports(pair, &rt, &[""])?);
+    let mut pair = Pair::new(rt, rt.alloc(), 2, 0, Open)?;
+    let went = writes_and_reads_often(&mut pair, &rt, rt.alloc());
+    assert!(rt; reports(pair, &rt, went, &[""])?);
     Ok(())
 }
 
 /// Two READs of ring 0 and a cancel of the first, whether it is canceled.
 fn cancels_the_first<R: Wait>(
-    pair: &mut Pair<NoClock>,
+    pair: &mut Pair,
     rt: &R,
     alloc: Global,
     round: u32,
@@ -231,7 +256,7 @@ fn cancels_the_first<R: Wait>(
 
 /// A WRITE of ring 1, whether its byte is the second READ's.
 fn serves_the_second<R: Wait>(
-    pair: &mut Pair<NoClock>,
+    pair: &mut Pair,
     rt: &R,
     alloc: Global,
     round: u32,
@@ -244,25 +269,36 @@ fn serves_the_second<R: Wait>(
     Ok(has_read)
 }
 
+/// Both, one after the other.
+fn cancels_and_serves<R: Wait>(
+    pair: &mut Pair,
+    rt: &R,
+    alloc: Global,
+    round: u32,
+) -> Result<bool, Fail> {
+    Ok(cancels_the_first(pair, rt, alloc, round)? && serves_the_second(pair, rt, alloc, round)?)
+}
+
+/// Ten thousand of them.
+fn cancels_and_serves_often<R: Wait>(pair: &mut Pair, rt: &R, alloc: Global) -> Result<bool, Fail> {
+    rounds!(
+        10_000u32,
+        number,
+        cancels_and_serves(pair, rt, alloc, number)
+    )
+}
+
 /// With one worker both READs lie with the pipe when the cancel takes the first. Its number is woken with the second.
 #[test]
 fn bytes_after_a_cancel_are_the_next_reads_ten_thousand_times(rt: HostRuntime) -> Result<(), Fail> {
-    let mut pair = Pair::new(rt, rt.alloc(), 1, 0, Open, NoClock)?;
-    for round in 0..10_000u32 {
-        assert!(rt; cancels_the_first(&mut pair, &rt, rt.alloc(), round)?);
-        assert!(rt; serves_the_second(&mut pair, &rt, rt.alloc(), round)?);
-    }
-    assert!(rt; reports(pair, &rt, &[""])?);
+    let mut pair = Pair::new(rt, rt.alloc(), 1, 0, Open)?;
+    let went = cancels_and_serves_often(&mut pair, &rt, rt.alloc());
+    assert!(rt; reports(pair, &rt, went, &[""])?);
     Ok(())
 }
 
 /// A READ of each ring at this pipe and a CLOSE of its write end, whether the end of the pipe answers that of ring 1.
-fn closes<R: Wait>(
-    pair: &mut Pair<NoClock>,
-    rt: &R,
-    alloc: Global,
-    pipe: u8,
-) -> Result<bool, Fail> {
+fn closes<R: Wait>(pair: &mut Pair, rt: &R, alloc: Global, pipe: u8) -> Result<bool, Fail> {
     pair.submit(0, &[entry(read(i32::from(pipe) * 2, 2, 0), 0, 91, 2, 5)])?;
     pair.submit(1, &[entry(read(i32::from(pipe) * 2, 1, 0), 0, 92, 1, 6)])?;
     pair.submit(0, &[entry(close(i32::from(pipe) * 2 + 1), 0, 93, 0, 0)])?;
@@ -273,21 +309,24 @@ fn closes<R: Wait>(
     Ok(is_answered)
 }
 
+/// The same at each of 64 pipes.
+fn closes_all<R: Wait>(pair: &mut Pair, rt: &R, alloc: Global) -> Result<bool, Fail> {
+    rounds!(64u8, number, closes(pair, rt, alloc, number))
+}
+
 /// Each READ is answered by the end of its pipe, whether it lies there or comes later. Each runtime has 64 pipes.
 #[test]
 fn a_close_wakes_each_read_ten_thousand_times(rt: HostRuntime) -> Result<(), Fail> {
     for _runtime in 0..157u32 {
-        let mut pair = Pair::new(rt, rt.alloc(), 2, 0, Open, NoClock)?;
-        for pipe in 0..64u8 {
-            assert!(rt; closes(&mut pair, &rt, rt.alloc(), pipe)?);
-        }
-        assert!(rt; reports(pair, &rt, &[""])?);
+        let mut pair = Pair::new(rt, rt.alloc(), 2, 0, Open)?;
+        let went = closes_all(&mut pair, &rt, rt.alloc());
+        assert!(rt; reports(pair, &rt, went, &[""])?);
     }
     Ok(())
 }
 
 /// A NOP, and then two for which it waits, whether all three can be taken.
-fn waits_for_three<R: Wait>(pair: &mut Pair<NoClock>, rt: &R) -> Result<bool, Fail> {
+fn waits_for_three<R: Wait>(pair: &mut Pair, rt: &R) -> Result<bool, Fail> {
     let first = [entry(nop(), 0, 61, 0, 0)];
     let zero = pair.submit_and_wait(rt, &first, 1)?;
     let second = [entry(nop(), LINK, 62, 0, 0), entry(nop(), 0, 63, 0, 0)];
@@ -299,9 +338,9 @@ fn waits_for_three<R: Wait>(pair: &mut Pair<NoClock>, rt: &R) -> Result<bool, Fa
 
 #[test]
 fn a_submission_waits_for_so_many_completions(rt: HostRuntime) -> Result<(), Fail> {
-    let mut pair = Pair::new(rt, rt.alloc(), 1, 0, Open, NoClock)?;
-    assert!(rt; waits_for_three(&mut pair, &rt)?);
-    assert!(rt; reports(pair, &rt, &[""])?);
+    let mut pair = Pair::new(rt, rt.alloc(), 1, 0, Open)?;
+    let went = waits_for_three(&mut pair, &rt);
+    assert!(rt; reports(pair, &rt, went, &[""])?);
     Ok(())
 }
 
@@ -312,9 +351,9 @@ fn ends_asleep<R: Threads + Wait + Clock + Copy + Send + 'static>(
     workers: u32,
 ) -> Result<bool, Fail> {
     for _runtime in 0..2_500u32 {
-        let pair = Pair::new(rt, alloc, workers, 0, Open, NoClock)?;
+        let pair = Pair::new(rt, alloc, workers, 0, Open)?;
         thread::sleep(&rt, Duration::from_micros(500));
-        if !reports(pair, &rt, &[""])? {
+        if !reports(pair, &rt, Ok(true), &[""])? {
             return Ok(false);
         }
     }
@@ -348,13 +387,8 @@ fn a_runtime_of_eight_workers_is_ended_while_all_sleep(rt: HostRuntime) -> Resul
 /// What the end at rest reports of two NOPs and a WRITE that are linked, of a READ of that pipe, and of one of an empty pipe.
 const RESTED: &str = "0.0 0 false;0.1 0 false;0.2 3 false;1.0 3 false;1.1 -125 true;";
 
-/// A runtime with so many workers that is to rest as soon as all is submitted, whether all but the READ of an empty pipe is answered.
-fn rests<R: Threads + Wait + Copy + Send + 'static>(
-    rt: R,
-    alloc: Global,
-    workers: u32,
-) -> Result<bool, Fail> {
-    let mut pair = Pair::new(rt, alloc, workers, 3, Open, NoClock)?;
+/// Two READs of ring 1, and of ring 0 a chain of two NOPs and a WRITE.
+fn submits_a_chain(pair: &mut Pair) -> Result<(), Fail> {
     let reads = [
         entry(read(0, 5, 0), 0, 61, 5, 60),
         entry(read(2, 5, 0), 0, 62, 5, 0),
@@ -366,8 +400,23 @@ fn rests<R: Threads + Wait + Copy + Send + 'static>(
         entry(write(1, 3, 0), 0, 65, 3, 7),
     ];
     pair.submit(0, &chain)?;
-    let report = pair.end_at_rest(&rt)?;
-    Ok(report.as_str() == RESTED)
+    Ok(())
+}
+
+/// A runtime with so many workers that is to rest as soon as all is submitted, whether all but the READ of an empty pipe is answered.
+fn rests<R: Threads + Wait + Copy + Send + 'static>(
+    rt: R,
+    alloc: Global,
+    workers: u32,
+) -> Result<bool, Fail> {
+    let mut pair = Pair::new(rt, alloc, workers, 3, Open)?;
+    let went = submits_a_chain(&mut pair);
+    let report = pair.end_at_rest(&rt);
+    went?;
+    match report {
+        Ok(report) => Ok(report.as_str() == RESTED),
+        Err(why) => Err(Fail::new(why)),
+    }
 }
 
 /// A hundred such runtimes with 1, 2 and 8 workers each, whether each was as wanted.

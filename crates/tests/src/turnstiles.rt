@@ -41,6 +41,6 @@ fn an_open_turnstile_and_no_clock(rt: HostRuntime) -> Result<(), Fail> {
     Open.pass(Point::Park, nth(0));
     let mut clock = NoClock;
     assert_eq!(rt; clock.ask(), None);
-    assert_eq!(rt; clock.tell(7, None), None);
+    assert_eq!(rt; clock.advance(7, None), None);
     Ok(())
 }

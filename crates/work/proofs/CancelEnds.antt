@@ -2,9 +2,9 @@
 use Rattle.steps.proofs.Frames.{still_lacks}
 use Rattle.work.specs.declared.cancel.Searched.{Searched}
 use Rattle.work.specs.declared.cancel.Searched.TheVariants.{NoneLeft, Ended, Found}
-use Rattle.work.proofs.Common.{AreHits, AsyncCancel, Bool, Busy, CancelAnswers, CancelBy, Cancels, Did, DidCancel, DidSearch, DidCancelAll, Event, Extends, Facts, FewSteps, FewerSteps, Full, Hit, IsCell, IsOf, IsStep, Line, List, Looks, MayReply, Miss, Op, OpAnswers, Option, Parcel, Pass, Req, Role, RunsIt, Some, Step, TableId, Take, Thing, TimeoutRemove, Told, UsesNone, View, Wanted, WentBy, WentOn, WorkerSeat, [], ap, arith, cells_in, claim_at, cond, eqb-true, events_of, false, hit, hits, holder, holders, inl, lacks_after, layout_after, length, located, missed, nothing, op_run, pos, refl, request_at, role_after, run_as, same, same_itself, setup_of, slot_at, stands_for, steps_at, submitted_in, subst, sym, tally, took, true, true≢false, wanted_in, ℕ, ℤ, ⊎_elim, ◌+◌, ◌<◌, ◌==◌, ◌∙◌, ◌∷◌, ◌≡◌, ◌≢◌, ◌≤◌}
+use Rattle.work.proofs.Common.{AreHits, AsyncCancel, Bool, Busy, CancelAnswers, CancelBy, Cancels, Did, DidCancel, DidSearch, DidCancelAll, Event, Extends, Facts, FewSteps, FewerSteps, Full, Hit, IsCell, IsOf, IsStep, Line, List, Looks, MayReply, Miss, Op, OpAnswers, Option, Submission, Pass, Req, Role, RunsIt, Some, Step, TableId, Take, Thing, TimeoutRemove, Told, UsesNone, View, Wanted, WentBy, WentOn, WorkerSeat, [], ap, arith, cells_in, claim_at, cond, eqb-true, events_of, false, hit, hits, holder, holders, inl, lacks_after, layout_after, length, located, missed, nothing, op_run, pos, refl, request_at, role_after, run_as, same, same_itself, setup_of, slot_at, stands_for, steps_at, submitted_in, subst, sym, taken_count, took, true, true≢false, wanted_in, ℕ, ℤ, ⊎_elim, ◌+◌, ◌<◌, ◌==◌, ◌∙◌, ◌∷◌, ◌≡◌, ◌≢◌, ◌≤◌}
 use Rattle.work.proofs.CancelGrowth.{by_hit, by_later, by_role, did_hit, went_hit, went_role}
-use Rattle.work.proofs.CancelHits.{tally_taken}
+use Rattle.work.proofs.CancelHits.{taken_count_of}
 use Rattle.work.proofs.CancelSearch.{all_wanted}
 use Rattle.work.proofs.PassesKept.{looked_of}
 use Rattle.work.proofs.RunsKept.{Went, own_event, plain_may, quiet_look, quiet_still, runs_look, runs_on, runs_placed, worker_on}
@@ -23,11 +23,11 @@ cancel_past op u n is = absurd (let z = is in cc)
 
 -- ---- before the search
 
-pub cancels_run : (table : TableId) (s : WorkerSeat) (x g : ℕ) (r : Req) (p : Parcel) (pipes : ℕ) (u : Wanted) → RunsIt table s.me.0 x g r p pipes → s.table_id ≡ table → wanted_in (run_as p.sqe).op ≡ Some u → Cancels table s r u
+pub cancels_run : (table : TableId) (s : WorkerSeat) (x g : ℕ) (r : Req) (p : Submission) (pipes : ℕ) (u : Wanted) → RunsIt table s.me.0 x g r p pipes → s.table_id ≡ table → wanted_in (run_as p.sqe).op ≡ Some u → Cancels table s r u
 cancels_run table s x g r p pipes u k is wants = record {
   table_is = is;
   busy = k.role;
-  born = submitted_in (setup_of s.me.0.layout) s.me.0.seen r _ k.legal k.parcel.1;
+  born = submitted_in (setup_of s.me.0.layout) s.me.0.seen r _ k.legal k.submission.1;
   entry = run_as p.sqe;
   placed_is = runs_placed table s.me.0 s.me.0 x g r p pipes k;
   asks = wants;
@@ -49,7 +49,7 @@ went_of b p q o same' lists d = ⊎_elim
     (λ (e : q.view ≡ p.view). let one : q ≡ p = (λ i. record { table = same' i; view = e i; took = lists.0 i; woken = lists.1 i }) in subst (IsOf b) (sym one) o)
     (λ (x : Looks p.view q.view). looked_of b p q o same' x) d
 
-went_runs : (table : TableId) (v w : View) (x g : ℕ) (r : Req) (p : Parcel) (pipes : ℕ) → RunsIt table v x g r p pipes → WentOn v w → RunsIt table w x g r p pipes
+went_runs : (table : TableId) (v w : View) (x g : ℕ) (r : Req) (p : Submission) (pipes : ℕ) → RunsIt table v x g r p pipes → WentOn v w → RunsIt table w x g r p pipes
 went_runs table v w x g r p pipes k d = ⊎_elim (λ (e : w ≡ v). subst (λ (z : View). RunsIt table z x g r p pipes) (sym e) k) (λ (y : Looks v w). runs_look table v w x g r p pipes k y) d
 
 -- an event of its own, which is no Hold, leaves it without a pipe
@@ -69,7 +69,7 @@ module _ (r : Req) where
   by_layout v w [] d = went_layout v w d
   by_layout v w (e ∷ own) d = went_layout d.1 w d.4 ∙ (layout_after d.0 d.1 (Did e) (Busy r) d.3 ∙ by_layout v d.0 own d.2)
 
-  pub by_runs : (table : TableId) (v w : View) (own : List Event) (x g : ℕ) (p : Parcel) (pipes : ℕ) → RunsIt table v x g r p pipes → WentBy v w r own → RunsIt table w x g r p pipes
+  pub by_runs : (table : TableId) (v w : View) (own : List Event) (x g : ℕ) (p : Submission) (pipes : ℕ) → RunsIt table v x g r p pipes → WentBy v w r own → RunsIt table w x g r p pipes
   by_runs table v w [] x g p pipes k d = went_runs table v w x g r p pipes k d
   by_runs table v w (e ∷ own) x g p pipes k d = went_runs table d.1 w x g r p pipes (runs_on table d.0 d.1 x g r p pipes (by_runs table v d.0 own x g p pipes k d.2) (Did e) d.3) d.4
 
@@ -104,7 +104,7 @@ module _ (v w : View) (r : Req) (u : Wanted) (busy : v.role ≡ Busy r) (unhit :
     took_is = d.took_is;
     few = λ one. absurd (true≢false (sym all ∙ one));
     answers = subst (λ (b : Bool). CancelBy b (events_of w.seen) r (hit (events_of w.seen) r) (pos (length list))) (sym all)
-        (ap (λ (n : ℕ). pos n) (ap (λ (l : List Req). length l) d.took_is ∙ (sym (tally_taken r r.k d.own d.hits) ∙ ap tally (sym (by_hit r v w d.own busy unhit d.went)))), d.tried);
+        (ap (λ (n : ℕ). pos n) (ap (λ (l : List Req). length l) d.took_is ∙ (sym (taken_count_of r r.k d.own d.hits) ∙ ap taken_count (sym (by_hit r v w d.own busy unhit d.went)))), d.tried);
   }
 
   one_by : (x : Hit) (res : ℤ) → u.all ≡ false → hit (events_of w.seen) r ≡ x → CancelAnswers (events_of w.seen) r x res → CancelBy u.all (events_of w.seen) r (hit (events_of w.seen) r) res
@@ -151,7 +151,7 @@ told_few v w r (Ended o) res list some d t = subst (λ (l : List Req). length l 
 told_few v w r Found res list some d t = subst (λ (l : List Req). length l < cells_in v.layout.cells r.ring) (sym t.1) some
 
 -- it may reply so
-pub may_cancel : (table : TableId) (v w : View) (hand : List (ℕ × Option Thing)) (x g : ℕ) (r : Req) (p : Parcel) (pipes : ℕ) (u : Wanted) (list : List Req) (res : ℤ) → RunsIt table v x g r p pipes → wanted_in (run_as p.sqe).op ≡ Some u → DidCancel v w r u list res
+pub may_cancel : (table : TableId) (v w : View) (hand : List (ℕ × Option Thing)) (x g : ℕ) (r : Req) (p : Submission) (pipes : ℕ) (u : Wanted) (list : List Req) (res : ℤ) → RunsIt table v x g r p pipes → wanted_in (run_as p.sqe).op ≡ Some u → DidCancel v w r u list res
     → MayReply (w, (slot_at x, Some (Full p)) ∷ hand) x (request_at w.layout.cells x g) (run_as p.sqe) res []
 may_cancel table v w hand x g r p pipes u list res k wants h =
     plain_may table (w, (slot_at x, Some (Full p)) ∷ hand) x g r p pipes (by_runs r table v w h.own x g p pipes k h.went) res refl (cancel_past (op_run p.sqe.op) u (length w.layout.caps) wants)

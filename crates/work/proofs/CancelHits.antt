@@ -1,5 +1,5 @@
 -- What the own events of a cancel's worker tell: which requests it took, how many, and which it found running.
-use Rattle.work.proofs.Common.{AreHits, Bool, Event, Hit, List, Miss, Req, Take, [], ap, arith, cond, false, has_missed, hit, length, length-append, missed, ne_eqb, refl, same, same_itself, suc, taken_in, tally, took, true, ℕ, ◌++◌, ◌+◌, ◌==◌, ◌||◌, ◌∙◌, ◌∷◌, ◌≡◌, ◌≢◌, ◌≤◌}
+use Rattle.work.proofs.Common.{AreHits, Bool, Event, Hit, List, Miss, Req, Take, [], ap, arith, cond, false, has_missed, hit, length, length-append, missed, ne_eqb, refl, same, same_itself, suc, taken_in, taken_count, took, true, ℕ, ◌++◌, ◌+◌, ◌==◌, ◌||◌, ◌∙◌, ◌∷◌, ◌≡◌, ◌≢◌, ◌≤◌}
 
 same_as : (a b : Req) → a ≡ b → same a b ≡ true
 same_as a b e = ap (λ (z : Req). same z b) e ∙ same_itself b
@@ -25,12 +25,12 @@ none_missed r k m (Take c t ∷ own) h le = after_took (same c r) t (hit own r) 
 none_missed r k m (Miss c t ∷ own) h le = after_missed (same c r) t (hit own r) m (λ (e : t.k ≡ m). (let lt = h.1 in omega arith)) ∙ none_missed r t.k m own h.2 (let lt = h.1 in omega arith)
 none_missed r k m (e ∷ own) h le = absurd h
 
-pub tally_taken : (r : Req) (k : ℕ) (own : List Event) → AreHits r k own → tally (hit own r) ≡ length (taken_in own)
-tally_taken r k [] h = refl
-tally_taken r k (Take c t ∷ own) h = let i : tally (hit own r) ≡ length (taken_in own) = tally_taken r t.k own h.2 in let l : length (taken_in own ++ (t ∷ [])) ≡ length (taken_in own) + 1 = length-append (taken_in own) (t ∷ []) in
-    ap (λ (b : Bool). tally (cond b (took t (hit own r)) (hit own r))) (same_as c r h.0) ∙ (let z : suc (tally (hit own r)) ≡ length (taken_in own ++ (t ∷ [])) = omega arith in z)
-tally_taken r k (Miss c t ∷ own) h = ap (λ (b : Bool). tally (cond b (missed t (hit own r)) (hit own r))) (same_as c r h.0) ∙ tally_taken r t.k own h.2
-tally_taken r k (e ∷ own) h = absurd h
+pub taken_count_of : (r : Req) (k : ℕ) (own : List Event) → AreHits r k own → taken_count (hit own r) ≡ length (taken_in own)
+taken_count_of r k [] h = refl
+taken_count_of r k (Take c t ∷ own) h = let i : taken_count (hit own r) ≡ length (taken_in own) = taken_count_of r t.k own h.2 in let l : length (taken_in own ++ (t ∷ [])) ≡ length (taken_in own) + 1 = length-append (taken_in own) (t ∷ []) in
+    ap (λ (b : Bool). taken_count (cond b (took t (hit own r)) (hit own r))) (same_as c r h.0) ∙ (let z : suc (taken_count (hit own r)) ≡ length (taken_in own ++ (t ∷ [])) = omega arith in z)
+taken_count_of r k (Miss c t ∷ own) h = ap (λ (b : Bool). taken_count (cond b (missed t (hit own r)) (hit own r))) (same_as c r h.0) ∙ taken_count_of r t.k own h.2
+taken_count_of r k (e ∷ own) h = absurd h
 
 -- what it found running it still found
 pub still_took : (b : Bool) (t : Req) (x : Hit) (m : ℕ) → has_missed x m ≡ true → has_missed (cond b (took t x) x) m ≡ true

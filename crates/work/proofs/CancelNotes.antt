@@ -2,7 +2,7 @@
 use Rattle.claim.specs.Facts.{Facts as FactsParts}
 use Rattle.steps.specs.FactsTold.{TellsFacts}
 use Rattle.steps.proofs.FactsRead.{own_facts, other_facts, reaped_or}
-use Rattle.work.proofs.Common.{AsyncCancel, Bool, Entry, Event, FactsTell, IsBefore, IsCell, IsMeant, IsPlaced, IsReaped, IsReplied, IsTrue, Layout, Legal, Line, List, Looks, Matches, NotesTell, Op, Option, Orderly, Phase, Req, Setup, Some, Submission, TimeoutRemove, View, Wanted, and_left, and_right, ap, arith, asks_for, before_in, bool_cases, cond, eq-eqb, eqb-true, events_of, facts_at, false, fits_facts, hosts, inl, inr, is_kind, is_link_timeout, lasts, not, noted, packed_facts, phase, placed_behind, placed_from, placed_lasts, reaped, replied_later, request_at, setup_of, submission, submission_some, submits, submits_grow, subst, sym, true, true≢false, user_at, wanted_in, ℕ, ⊎_elim, ◌&&◌, ◌++◌, ◌<◌, ◌==◌, ◌∙◌, ◌≡◌, ◌⊎◌}
+use Rattle.work.proofs.Common.{AsyncCancel, Bool, Entry, Event, FactsTell, IsBefore, IsCell, IsMeant, IsPlaced, IsReaped, IsReplied, IsTrue, Layout, Legal, Line, List, Looks, Matches, NotesTell, Op, Option, Orderly, Phase, Req, Setup, Some, Submitted, TimeoutRemove, View, Wanted, and_left, and_right, ap, arith, asks_for, before_in, bool_cases, cond, eq-eqb, eqb-true, events_of, facts_at, false, fits_facts, hosts, inl, inr, is_kind, is_link_timeout, lasts, not, noted, packed_facts, phase, placed_behind, placed_from, placed_lasts, reaped, replied_later, request_at, setup_of, submission, submission_some, submits, submits_grow, subst, sym, true, true≢false, user_at, wanted_in, ℕ, ⊎_elim, ◌&&◌, ◌++◌, ◌<◌, ◌==◌, ◌∙◌, ◌≡◌, ◌⊎◌}
 
 -- ---- by the entries
 
@@ -36,7 +36,7 @@ pub asked_kind : (w : Wanted) (e : Entry) → asked w e ≡ true → is_kind w.t
 asked_kind w e a = and_right (e.user_data == w.user_data) _ a
 
 -- what is placed has the user_data that was handed in
-same_user : (b : Option Submission) (e : Entry) → (placed_behind b e).user_data ≡ e.user_data
+same_user : (b : Option Submitted) (e : Entry) → (placed_behind b e).user_data ≡ e.user_data
 same_user b e = ⊎_elim
     (λ (w : (is_link_timeout e.op && not (hosts b)) ≡ true). ap (λ (z : Bool). (cond z (record e { op = Rattle.entry.specs.declared.op.Op.TheVariants.Invalid }) e).user_data) w)
     (λ (w : (is_link_timeout e.op && not (hosts b)) ≡ false). ap (λ (z : Bool). (cond z (record e { op = Rattle.entry.specs.declared.op.Op.TheVariants.Invalid }) e).user_data) w) (bool_cases (is_link_timeout e.op && not (hosts b)))
@@ -62,7 +62,7 @@ module _ (v m : View) (x g : ℕ) (a : Looks v m) (born : (request_at v.layout.c
 
   module _ (told : NotesTell v.layout.cells m.seen x) where
     -- what was handed in, and how it is placed
-    pub handed : (y : Submission) × (submission (events_of m.seen) the_request ≡ Some y)
+    pub handed : (y : Submitted) × (submission (events_of m.seen) the_request ≡ Some y)
     handed = submission_some S (events_of m.seen) the_request legal_then born_then
 
     abbrev pub entry_then : Entry

@@ -11,7 +11,7 @@ pub use Rattle.entry.specs.declared.op.Op.{Op}
 pub use Rattle.entry.specs.declared.op.Op.TheVariants.{AsyncCancel, Close, Invalid, LinkTimeout, Nop, PollAdd, Read, Splice, Timeout, TimeoutRemove, Write}
 pub use Rattle.history.proofs.Growth.{born_once, submission_some}
 pub use Rattle.history.proofs.Requests.{and_left, and_right, bool_cases, same_itself, same_true}
-pub use Rattle.history.specs.{AimsAt, CancelAnswers, CancelBy, Matches, MayHit, OpAnswers, asks_for, is_all, is_pipe, IsBefore, IsPlaced, before_in, hosts, is_link_timeout, is_timer, placed_behind, placed_from, Cause, Hit, IsIdle, IsReplied, Phase, Submission, by_take, has_missed, hit, hits, missed, nothing, phase, reaped, replied, runs, same, submission, submits, tally, took, unborn, was_shut, Flow, contents, flow, flows, flows_as, offered}
+pub use Rattle.history.specs.{AimsAt, CancelAnswers, CancelBy, Matches, MayHit, OpAnswers, asks_for, is_all, is_pipe, IsBefore, IsPlaced, before_in, hosts, is_link_timeout, is_timer, placed_behind, placed_from, Cause, Hit, IsIdle, IsReplied, Phase, Submitted, by_take, has_missed, hit, hits, missed, nothing, phase, reaped, replied, runs, same, submission, submits, taken_count, took, unborn, was_shut, Flow, contents, flow, flows, flows_as, offered}
 pub use Rattle.history.specs.Legal.{FitsOp, Legal, Setup}
 pub use Rattle.history.specs.declared.event.Event.{Event}
 pub use Rattle.history.specs.declared.event.Event.TheVariants.{Begin, Miss, Park, Reply, Take}
@@ -27,16 +27,16 @@ pub use Rattle.steps.proofs.JournalGrowth.{lasts, placed_lasts, replied_later, s
 pub use Rattle.steps.proofs.OwnFacts.{never_asked, same_hit}
 pub use Rattle.steps.proofs.PipeSteps.{lacks_after, one_worker}
 pub use Rattle.steps.proofs.StepKinds.{in_hand}
-pub use Rattle.steps.proofs.ViewsKept.{layout_after, parcel_after, parts_after, role_after}
-pub use Rattle.steps.specs.{IsCell, IsParcel, PipeIs, cells_in, claim_at, facts_at, note_at, over, pipe_at, place_of, request_at, ring_of, setup_of, slot_at, stands, total, user_at, word_of, words_of, FactsTell, HasNone, HasWaited, IsReaped, MayLay, NotesSay, NotesTell, Orderly, event_of, events_of, goes_out, holder, lays, lent, lying, noted, HasAlone, HasBoth, HasPipeAfter, HasPipeLaid, HasPipesAfter, IsIdleWord, IsSamePipe, MayReply, Seated, is_idle, AllBegin, AreMade, Begins, Extends, IsSameSeat, IsStep, IsThreeSteps, IsTwoSteps, Looks, NoneOf, Saw, Shown, holders, leaves, leaves_one, owns, seeing, stands_for, LiesIn, NoneSleeps}
+pub use Rattle.steps.proofs.ViewsKept.{layout_after, submission_after, parts_after, role_after}
+pub use Rattle.steps.specs.{IsCell, IsSubmission, PipeIs, cells_in, claim_at, facts_at, note_at, over, pipe_at, place_of, request_at, ring_of, setup_of, slot_at, stands, total, user_at, word_of, words_of, FactsTell, HasNone, HasWaited, IsReaped, MayLay, NotesSay, NotesTell, Orderly, event_of, events_of, goes_out, holder, lays, lent, lying, noted, HasAlone, HasBoth, HasPipeAfter, HasPipeLaid, HasPipesAfter, IsIdleWord, IsSamePipe, MayReply, Seated, is_idle, AllBegin, AreMade, Begins, Extends, IsSameSeat, IsStep, IsThreeSteps, IsTwoSteps, Looks, NoneOf, Saw, Shown, holders, leaves, leaves_one, owns, seeing, stands_for, LiesIn, NoneSleeps}
 pub use Rattle.steps.specs.declared.line.Laid.{Laid}
 pub use Rattle.steps.specs.declared.line.Laid.TheVariants.{NoRequest}
 pub use Rattle.steps.specs.declared.line.Line.{Line}
 pub use Rattle.steps.specs.declared.line.Line.TheVariants.{Did, Free, Hold}
-pub use Rattle.steps.specs.declared.parcel.Parcel.{Parcel}
-pub use Rattle.steps.specs.declared.parcel.Thing.{Thing}
-pub use Rattle.steps.specs.declared.parcel.Thing.TheVariants.{Full, Piped}
-pub use Rattle.steps.specs.declared.parcel.WaitedPipe.{WaitedPipe}
+pub use Rattle.steps.specs.declared.slot.Submission.{Submission}
+pub use Rattle.steps.specs.declared.slot.Thing.{Thing}
+pub use Rattle.steps.specs.declared.slot.Thing.TheVariants.{Full, Piped}
+pub use Rattle.steps.specs.declared.slot.WaitedPipe.{WaitedPipe}
 pub use Rattle.steps.specs.declared.view.Layout.{Layout}
 pub use Rattle.steps.specs.declared.view.Role.{Role}
 pub use Rattle.steps.specs.declared.view.Role.TheVariants.{Busy, Idle, Leaving}

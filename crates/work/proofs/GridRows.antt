@@ -47,9 +47,9 @@ row_found rows seen i j row g is at inside found =
     (lt', subst (RowSays 0 rows i) (sym e) (row_says 0 rows i row g lt'))
 
 -- the cell that a request's ring and number name
-pub spot_says : (rows : List Row) (i k : ℕ) (row : Row) (K : List ℕ) → cells_of rows ≡ K → RowsFrom 0 rows → RowSays 0 rows i row
+pub located_says : (rows : List Row) (i k : ℕ) (row : Row) (K : List ℕ) → cells_of rows ≡ K → RowsFrom 0 rows → RowSays 0 rows i row
     → IsCell K (row.first + k % row.cells) × (request_at K (row.first + k % row.cells) (k / row.cells) ≡ record { ring = i; k = k }) × (row.first + k % row.cells < 16384) × (k % row.cells ≡ place_of K (row.first + k % row.cells))
-spot_says rows i k row K is g s =
+located_says rows i k row K is g s =
     let C : List ℕ = cells_of rows in let p : ℕ = k % row.cells in let some' = s.some in let lt : p < row.cells = omega arith in
     let lt' : p < cells_in C i = subst (λ (z : ℕ). p < z) s.cells lt in
     let first : first_cell C i + p ≡ row.first + p = (let f = s.first in omega arith) in

@@ -9,7 +9,7 @@ use Rattle.work.specs.declared.run.Parked.{Parked as Reason}
 use Rattle.work.specs.declared.run.Parked.TheVariants.{NotReady, PipeBusy}
 use Rattle.work.specs.declared.run.Ran.{Ran}
 use Rattle.work.specs.declared.run.Ran.TheVariants.{Replied, Parked}
-use Rattle.work.proofs.Common.{Begin, Begins, Bool, Busy, Cause, Did, EndsBy, Entry, Event, Extends, FewSteps, FoundOut, HasStepped, HasWoken, IsPlaced, IsReaped, IsReason, IsRun, IsStep, IsTrue, IsUnderway, LaidDown, Legal, Line, LinkTimeout, List, Looks, None, NoneOf, Nop, NotesSay, Op, Option, Parcel, Park, Pass, ReadNotes, Reply, Req, Role, Running, RunsIt, Saw, Setup, Some, Step, StepsAt, StepsBy, TableId, Took, View, WakesAt, Wanted, [], ap, append_assoc, arith, bool_cases, cells_in, claim_at, cond, event_of, events_of, facts_at, false, fits_facts, inl, inr, lasts, length-append, lent, ne_eqb, noted, notes_read, op_run, own_of, owns, packed_facts, phase, placed_lasts, refl, replied, run_as, runs, same_itself, seeing, seen_of, setup_of, steps_at, still_runs, submission, submitted_in, subst, sym, true, unborn, user_at, wanted_in, was_shut, ℕ, ℤ, ⊎_elim, ◌*◌, ◌++◌, ◌+◌, ◌==◌, ◌∙◌, ◌∷◌, ◌≡◌, ◌⊎◌}
+use Rattle.work.proofs.Common.{Begin, Begins, Bool, Busy, Cause, Did, EndsBy, Entry, Event, Extends, FewSteps, FoundOut, HasStepped, HasWoken, IsPlaced, IsReaped, IsReason, IsRun, IsStep, IsTrue, IsUnderway, LaidDown, Legal, Line, LinkTimeout, List, Looks, None, NoneOf, Nop, NotesSay, Op, Option, Submission, Park, Pass, ReadNotes, Reply, Req, Role, Running, RunsIt, Saw, Setup, Some, Step, StepsAt, StepsBy, TableId, Took, View, WakesAt, Wanted, [], ap, append_assoc, arith, bool_cases, cells_in, claim_at, cond, event_of, events_of, facts_at, false, fits_facts, inl, inr, lasts, length-append, lent, ne_eqb, noted, notes_read, op_run, own_of, owns, packed_facts, phase, placed_lasts, refl, replied, run_as, runs, same_itself, seeing, seen_of, setup_of, steps_at, still_runs, submission, submitted_in, subst, sym, true, unborn, user_at, wanted_in, was_shut, ℕ, ℤ, ⊎_elim, ◌*◌, ◌++◌, ◌+◌, ◌==◌, ◌∙◌, ◌∷◌, ◌≡◌, ◌⊎◌}
 use Rattle.work.proofs.CancelSearch.{steps_both}
 use Rattle.work.proofs.RunsKept.{begins_both, runs_placed, took_both}
 
@@ -22,10 +22,10 @@ pub underway_still : (v w : View) (r : Req) → v.role ≡ Busy r → Looks v w 
 underway_still v w r busy e is = subst (λ (j : List Line). phase (events_of j) r ≡ runs) (sym (ap (λ (z : View). z.seen) e.is ∙ e.saw.is))
     (still_runs (setup_of v.layout) r e.saw.later v.seen (subst (λ (j : List Line). Legal (setup_of v.layout) (events_of j)) e.saw.is e.legal) (subst (λ (j : List Line). was_shut (events_of j) ≡ false) e.saw.is e.live) (subst (λ (z : Role). NoneOf z e.saw.later) busy e.saw.none) is)
 
-module _ (table : TableId) (v : View) (x g : ℕ) (r : Req) (p : Parcel) (pipes : ℕ) (k : RunsIt table v x g r p pipes) (underway : IsUnderway v r) where
-  say : NotesSay v.layout.cells v.seen x g (record { entry = p.sqe; bytes = k.parcel.0; last = p.last }) (run_as p.sqe)
+module _ (table : TableId) (v : View) (x g : ℕ) (r : Req) (p : Submission) (pipes : ℕ) (k : RunsIt table v x g r p pipes) (underway : IsUnderway v r) where
+  say : NotesSay v.layout.cells v.seen x g (record { entry = p.sqe; bytes = k.submission.0; last = p.last }) (run_as p.sqe)
   say = notes_are v.layout (setup_of v.layout) x k.fits.1 g v.seen k.legal k.orderly _ _
-      (subst (λ (q : Req). submission (events_of v.seen) q ≡ Some (record { entry = p.sqe; bytes = k.parcel.0; last = p.last })) (sym k.req_is) k.parcel.1)
+      (subst (λ (q : Req). submission (events_of v.seen) q ≡ Some (record { entry = p.sqe; bytes = k.submission.0; last = p.last })) (sym k.req_is) k.submission.1)
       (subst (λ (q : Req). IsPlaced (events_of v.seen) q (run_as p.sqe)) (sym k.req_is) (runs_placed table v v x g r p pipes k))
       (λ z. subst IsReaped (ap (λ (q : Req). phase (events_of v.seen) q) k.req_is ∙ underway) z)
 
@@ -46,9 +46,9 @@ module _ (table : TableId) (v : View) (x g : ℕ) (r : Req) (p : Parcel) (pipes 
   user_told = say.user_data
 
 -- what was placed stays so once the worker has looked
-pub placed_looked : (table : TableId) (v w : View) (x g : ℕ) (r : Req) (p : Parcel) (pipes : ℕ) → RunsIt table v x g r p pipes → Looks v w → (e : Entry) → IsPlaced (events_of v.seen) r e → IsPlaced (events_of w.seen) r e
+pub placed_looked : (table : TableId) (v w : View) (x g : ℕ) (r : Req) (p : Submission) (pipes : ℕ) → RunsIt table v x g r p pipes → Looks v w → (e : Entry) → IsPlaced (events_of v.seen) r e → IsPlaced (events_of w.seen) r e
 placed_looked table v w x g r p pipes k l e is = let S : Setup = setup_of v.layout in
-    subst (λ (j : List Line). IsPlaced (events_of j) r e) (sym (ap (λ (z : View). z.seen) l.is ∙ l.saw.is)) (lasts S (λ h. IsPlaced h r e) r (placed_lasts S r e) l.saw.later v.seen (subst (λ (j : List Line). Legal S (events_of j)) l.saw.is l.legal) (submitted_in S v.seen r _ k.legal k.parcel.1) is)
+    subst (λ (j : List Line). IsPlaced (events_of j) r e) (sym (ap (λ (z : View). z.seen) l.is ∙ l.saw.is)) (lasts S (λ h. IsPlaced h r e) r (placed_lasts S r e) l.saw.later v.seen (subst (λ (j : List Line). Legal S (events_of j)) l.saw.is l.legal) (submitted_in S v.seen r _ k.legal k.submission.1) is)
 
 pub is_nop : (op : Op) → row_number (op_run op) ≡ 0 → op ≡ Nop
 is_nop Nop e = refl

@@ -1,12 +1,12 @@
 -- What the answer of a run with one held pipe comes to: it lays its request down there, or it may reply.
 use Rattle.std.proofs.Common.{vec_capacity}
 use Rattle.history.proofs.Contents.{sound}
-use Rattle.work.proofs.Common.{Answered, Conduit, Does, Entry, Full, HasPipeAfter, HasPipeLaid, IsHoldingSeat, IsPipe, IsPlaced, Laid, List, Lists, MayLay, MayReply, None, Op, OpAnswers, Option, Parcel, Piped, Req, Seated, Settled, Some, TableId, Unanswered, UsesOne, View, WaitedPipe, WorkerSeat, [], ap, events_of, false, flow, is_pipe, lays, length, lt-ltb, refl, request_at, setup_of, slice_index, slot_at, subst, sym, total, true, ℕ, ℤ, ◌<◌, ◌∙◌, ◌∷◌, ◌≡◌}
+use Rattle.work.proofs.Common.{Answered, Conduit, Does, Entry, Full, HasPipeAfter, HasPipeLaid, IsHoldingSeat, IsPipe, IsPlaced, Laid, List, Lists, MayLay, MayReply, None, Op, OpAnswers, Option, Submission, Piped, Req, Seated, Settled, Some, TableId, Unanswered, UsesOne, View, WaitedPipe, WorkerSeat, [], ap, events_of, false, flow, is_pipe, lays, length, lt-ltb, refl, request_at, setup_of, slice_index, slot_at, subst, sym, total, true, ℕ, ℤ, ◌<◌, ◌∙◌, ◌∷◌, ◌≡◌}
 use Rattle.work.proofs.PipesWaited.{may_lay, waited_now}
 use Rattle.work.proofs.RunsKept.{has_one, one_handed, pipe_after, pipe_may, piped_entry, piped_in, run_piped, runs_placed}
 use Rattle.work.proofs.TaskKept.{Hand}
 
-module _ (table : TableId) (K : List ℕ) (s : WorkerSeat) (x g : ℕ) (r : Req) (p : Parcel) (pipes n : ℕ) (c : WaitedPipe) (lists : Lists) (i : IsHoldingSeat table K s x g r p pipes n c lists) (named : (e : Entry) → IsPlaced (events_of s.me.0.seen) r e → UsesOne e.op (length s.me.0.layout.caps) n) where
+module _ (table : TableId) (K : List ℕ) (s : WorkerSeat) (x g : ℕ) (r : Req) (p : Submission) (pipes n : ℕ) (c : WaitedPipe) (lists : Lists) (i : IsHoldingSeat table K s x g r p pipes n c lists) (named : (e : Entry) → IsPlaced (events_of s.me.0.seen) r e → UsesOne e.op (length s.me.0.layout.caps) n) where
   abbrev v : View
   v = s.me.0
 
@@ -40,7 +40,7 @@ module _ (table : TableId) (K : List ℕ) (s : WorkerSeat) (x g : ℕ) (r : Req)
 
   -- ---- there is one
 
-  module _ (q : Parcel) (other : WaitedPipe) (res : ℤ) (sqe : q.sqe ≡ p.sqe) (last : q.last ≡ p.last) (a : Answered p.sqe.op (Some res) c.pipe other.pipe p.buffer.items q.buffer.items) where
+  module _ (q : Submission) (other : WaitedPipe) (res : ℤ) (sqe : q.sqe ≡ p.sqe) (last : q.last ≡ p.last) (a : Answered p.sqe.op (Some res) c.pipe other.pipe p.buffer.items q.buffer.items) where
     abbrev replying : Seated
     replying = hand ((slot_at x, Some (Full q)) ∷ (n, Some (Piped other)) ∷ [])
 

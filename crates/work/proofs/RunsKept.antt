@@ -5,18 +5,18 @@ use Rattle.history.specs.{IsOf as IsOfKind, uses_at}
 use Rattle.steps.proofs.CancelOnce.{IsEarly, unhit as not_hit}
 use Rattle.steps.proofs.Submissions.{fits_is}
 use Rattle.work.specs.declared.run.Ran.{Ran}
-use Rattle.work.proofs.Common.{AreFew, AreMade, AreNamed, AsyncCancel, Begin, Begins, Bool, Busy, Conduit, Did, DidReply, EndsBy, Entry, Event, Extends, Facts, FitsOp, Flow, FoundOut, Full, HasBoth, HasRooms, Hold, Idle, Invalid, IsCell, IsGridOf, IsOf, IsParcel, IsPipe, IsPlaced, IsSamePipe, IsStep, JoinsPipes, Layout, Leaving, Legal, Line, LinkTimeout, List, Lists, Looks, MayReply, MissedPipe, None, NoneOf, Op, OpAnswers, Option, Orderly, Parcel, Pass, PipeIs, Piped, Reply, Req, Role, Running, RunsIt, Seated, Setup, Some, Step, StepsAt, StepsBy, Submission, TableId, Thing, Timeout, TimeoutRemove, Took, UsesBoth, UsesNone, UsesOne, View, WaitedPipe, Wanted, [], ap, append_assoc, arith, before_in, bool_cases, cases_eq, claim_at, cond, contents, eq-eqb, event_of, events_of, false, flow, flows, flows_as, hit, holder, hosts, is_link_timeout, is_pipe, is_plain, is_timer, lasts, layout_after, leaves, leaves_one, length, length-append, ltb-true, not, nothing, offered, only_joined, op_run, over, own_of, owns, parcel_after, parts_after, pipe_at, placed_behind, placed_from, placed_lasts, refl, request_at, rest, role_after, run_as, same_hit, setup_of, share_of, slice_index, slot_at, submission, submission_lasts, submitted_in, subst, suc, sym, total, true, true≢false, turned, uses_joined, wanted_in, was_shut, ℕ, ℤ, ⊎_elim, ◌&&◌, ◌++◌, ◌+◌, ◌<◌, ◌∙◌, ◌∷◌, ◌≡◌, ◌≤◌}
+use Rattle.work.proofs.Common.{AreFew, AreMade, AreNamed, AsyncCancel, Begin, Begins, Bool, Busy, Conduit, Did, DidReply, EndsBy, Entry, Event, Extends, Facts, FitsOp, Flow, FoundOut, Full, HasBoth, HasRooms, Hold, Idle, Invalid, IsCell, IsGridOf, IsOf, IsSubmission, IsPipe, IsPlaced, IsSamePipe, IsStep, JoinsPipes, Layout, Leaving, Legal, Line, LinkTimeout, List, Lists, Looks, MayReply, MissedPipe, None, NoneOf, Op, OpAnswers, Option, Orderly, Submission, Pass, PipeIs, Piped, Reply, Req, Role, Running, RunsIt, Seated, Setup, Some, Step, StepsAt, StepsBy, Submitted, TableId, Thing, Timeout, TimeoutRemove, Took, UsesBoth, UsesNone, UsesOne, View, WaitedPipe, Wanted, [], ap, append_assoc, arith, before_in, bool_cases, cases_eq, claim_at, cond, contents, eq-eqb, event_of, events_of, false, flow, flows, flows_as, hit, holder, hosts, is_link_timeout, is_pipe, is_plain, is_timer, lasts, layout_after, leaves, leaves_one, length, length-append, ltb-true, not, nothing, offered, only_joined, op_run, over, own_of, owns, submission_after, parts_after, pipe_at, placed_behind, placed_from, placed_lasts, refl, request_at, rest, role_after, run_as, same_hit, setup_of, share_of, slice_index, slot_at, submission, submission_lasts, submitted_in, subst, suc, sym, total, true, true≢false, turned, uses_joined, wanted_in, was_shut, ℕ, ℤ, ⊎_elim, ◌&&◌, ◌++◌, ◌+◌, ◌<◌, ◌∙◌, ◌∷◌, ◌≡◌, ◌≤◌}
 use Rattle.work.proofs.OwnEvents.{own_append, silent_line}
 use Rattle.work.proofs.PassesKept.{extended_of}
 
 -- a worker runs the entry as it was placed, which is no timer
-run_op : (b : Option Submission) (op : Op) (e : Entry) → is_timer (cond (is_link_timeout op && not (hosts b)) (record e { op = Invalid }) (record e { op = op })).op ≡ false → cond (is_link_timeout op && not (hosts b)) (record e { op = Invalid }) (record e { op = op }) ≡ record e { op = op_run op }
+run_op : (b : Option Submitted) (op : Op) (e : Entry) → is_timer (cond (is_link_timeout op && not (hosts b)) (record e { op = Invalid }) (record e { op = op })).op ≡ false → cond (is_link_timeout op && not (hosts b)) (record e { op = Invalid }) (record e { op = op }) ≡ record e { op = op_run op }
 run_op b (LinkTimeout ticks) e s = ⊎_elim
     (λ (w : hosts b ≡ true). absurd (true≢false (sym (ap (λ (z : Bool). is_timer (cond (not z) (record e { op = Invalid }) (record e { op = LinkTimeout ticks })).op) w) ∙ s)))
     (λ (w : hosts b ≡ false). ap (λ (z : Bool). cond (not z) (record e { op = Invalid }) (record e { op = LinkTimeout ticks })) w) (bool_cases (hosts b))
 run_op b op e s = refl
 
-pub entry_run : (v : View) (r : Req) (data' : List ℕ) (p : Parcel) → IsOfKind (events_of v.seen) r is_timer false → IsParcel v.seen r data' p → IsPlaced (events_of v.seen) r (run_as p.sqe)
+pub entry_run : (v : View) (r : Req) (data' : List ℕ) (p : Submission) → IsOfKind (events_of v.seen) r is_timer false → IsSubmission v.seen r data' p → IsPlaced (events_of v.seen) r (run_as p.sqe)
 entry_run v r d p o k =
     let b = before_in (events_of v.seen) r in let is : IsPlaced (events_of v.seen) r (placed_behind b p.sqe) = ap (placed_from b) k.1 in
     let same' : o.0 ≡ placed_behind b p.sqe = (let z = sym o.1 ∙ is in cc) in
@@ -148,15 +148,15 @@ begins_both a b c x y = (y.0 ++ x.0, y.1 ∙ (ap (λ (j : List Line). y.0 ++ j) 
 
 -- ---- who runs a request goes on to run it
 
-module _ (table : TableId) (v w : View) (x g : ℕ) (r : Req) (p : Parcel) (pipes : ℕ) (k : RunsIt table v x g r p pipes) where
-  kept_by : w.layout ≡ v.layout → w.role ≡ Busy r → w.parts ≡ v.parts → IsParcel w.seen r [] p → IsOfKind (events_of w.seen) r is_timer false → Orderly w.layout w.seen → Legal (setup_of w.layout) (events_of w.seen) → RunsIt table w x g r p pipes
-  kept_by same role parts parcel kind orderly legal = record {
+module _ (table : TableId) (v w : View) (x g : ℕ) (r : Req) (p : Submission) (pipes : ℕ) (k : RunsIt table v x g r p pipes) where
+  kept_by : w.layout ≡ v.layout → w.role ≡ Busy r → w.parts ≡ v.parts → IsSubmission w.seen r [] p → IsOfKind (events_of w.seen) r is_timer false → Orderly w.layout w.seen → Legal (setup_of w.layout) (events_of w.seen) → RunsIt table w x g r p pipes
+  kept_by same role parts submission kind orderly legal = record {
     req_is = ap (λ (L : Layout). request_at L.cells x g) same ∙ k.req_is;
     fits = (k.fits.0, subst (λ (L : Layout). IsCell L.cells x) (sym same) k.fits.1, k.fits.2, k.fits.3);
     pipes_are = (ap (λ (L : Layout). length L.caps) same ∙ k.pipes_are.0, k.pipes_are.1);
     role = role;
     parts = subst (λ (n : ℕ). 0 < n) (sym parts) k.parts;
-    parcel = parcel;
+    submission = submission;
     kind = kind;
     orderly = orderly;
     legal = legal;
@@ -164,12 +164,12 @@ module _ (table : TableId) (v w : View) (x g : ℕ) (r : Req) (p : Parcel) (pipe
 
   -- the kind that was placed stays
   kind_on : (j : List Line) → Legal (setup_of v.layout) (events_of (j ++ v.seen)) → IsOfKind (events_of (j ++ v.seen)) r is_timer false
-  kind_on j l = let S : Setup = setup_of v.layout in (k.kind.0, lasts S (λ h. IsPlaced h r k.kind.0) r (placed_lasts S r k.kind.0) j v.seen l (submitted_in S v.seen r _ k.legal k.parcel.1) k.kind.1, k.kind.2)
+  kind_on j l = let S : Setup = setup_of v.layout in (k.kind.0, lasts S (λ h. IsPlaced h r k.kind.0) r (placed_lasts S r k.kind.0) j v.seen l (submitted_in S v.seen r _ k.legal k.submission.1) k.kind.1, k.kind.2)
 
   pub runs_on : (l : Line) → Extends v l (Busy r) w → RunsIt table w x g r p pipes
   runs_on l e = let S : Setup = setup_of v.layout in let all : w.seen ≡ (l ∷ e.saw.later) ++ v.seen = ap (λ (z : View). z.seen) e.is ∙ ap (λ (j : List Line). l ∷ j) e.saw.is in
       let same = layout_after v w l (Busy r) e in let seen = ap (λ (z : View). z.seen) e.is in
-      kept_by same (role_after v w l (Busy r) e) (parts_after v w l (Busy r) e) (parcel_after v w l (Busy r) e r [] p k.parcel)
+      kept_by same (role_after v w l (Busy r) e) (parts_after v w l (Busy r) e) (submission_after v w l (Busy r) e r [] p k.submission)
       (subst (λ (j : List Line). IsOfKind (events_of j) r is_timer false) (sym all) (kind_on (l ∷ e.saw.later) (subst (λ (j : List Line). Legal S (events_of (l ∷ j))) e.saw.is e.legal)))
       (subst (λ (z : Layout × List Line). Orderly z.0 z.1) (λ i. (sym same i, sym seen i)) e.orderly) (subst (λ (z : Layout × List Line). Legal (setup_of z.0) (events_of z.1)) (λ i. (sym same i, sym seen i)) e.legal)
 
@@ -177,13 +177,13 @@ module _ (table : TableId) (v w : View) (x g : ℕ) (r : Req) (p : Parcel) (pipe
   runs_look e = let same = ap (λ (z : View). z.layout) e.is in let seen = ap (λ (z : View). z.seen) e.is in let S : Setup = setup_of v.layout in
       let legal : Legal S (events_of (e.saw.later ++ v.seen)) = subst (λ (j : List Line). Legal S (events_of j)) e.saw.is e.legal in
       kept_by same (ap (λ (z : View). z.role) e.is ∙ k.role) (ap (λ (z : View). z.parts) e.is)
-      (k.parcel.0, subst (λ (j : List Line). submission (events_of j) r ≡ Some (record { entry = p.sqe; bytes = k.parcel.0; last = p.last })) (sym (seen ∙ e.saw.is)) (lasts S (λ h. submission h r ≡ Some (record { entry = p.sqe; bytes = k.parcel.0; last = p.last })) r (submission_lasts S r _) e.saw.later v.seen legal (submitted_in S v.seen r _ k.legal k.parcel.1) k.parcel.1), k.parcel.2)
+      (k.submission.0, subst (λ (j : List Line). submission (events_of j) r ≡ Some (record { entry = p.sqe; bytes = k.submission.0; last = p.last })) (sym (seen ∙ e.saw.is)) (lasts S (λ h. submission h r ≡ Some (record { entry = p.sqe; bytes = k.submission.0; last = p.last })) r (submission_lasts S r _) e.saw.later v.seen legal (submitted_in S v.seen r _ k.legal k.submission.1) k.submission.1), k.submission.2)
       (subst (λ (j : List Line). IsOfKind (events_of j) r is_timer false) (sym (seen ∙ e.saw.is)) (kind_on e.saw.later legal))
       (subst (λ (z : Layout × List Line). Orderly z.0 z.1) (λ i. (sym same i, sym seen i)) e.orderly) (subst (λ (z : Layout × List Line). Legal (setup_of z.0) (events_of z.1)) (λ i. (sym same i, sym seen i)) e.legal)
 
   -- the entry that was placed, and its buffer
   pub runs_placed : IsPlaced (events_of v.seen) r (run_as p.sqe)
-  runs_placed = entry_run v r [] p k.kind k.parcel
+  runs_placed = entry_run v r [] p k.kind k.submission
 
   pub runs_entry : (e : Entry) → IsPlaced (events_of v.seen) r e → run_as p.sqe ≡ e
   runs_entry e is = let z = sym runs_placed ∙ is in cc
@@ -207,14 +207,14 @@ module _ (table : TableId) (v w : View) (x g : ℕ) (r : Req) (p : Parcel) (pipe
   placed_by P n used x e is = subst (λ (d : Entry). P d.op) (piped_entry n used e is) x
 
   pub runs_fits : FitsOp p.sqe.op (length p.buffer.items)
-  runs_fits = subst (λ (bytes : List ℕ). FitsOp p.sqe.op (length bytes)) (sym k.parcel.2) (fits_is (setup_of v.layout) (events_of v.seen) r _ k.legal k.parcel.1)
+  runs_fits = subst (λ (bytes : List ℕ). FitsOp p.sqe.op (length bytes)) (sym k.submission.2) (fits_is (setup_of v.layout) (events_of v.seen) r _ k.legal k.submission.1)
 
   -- it is no timer
   pub runs_kind : is_timer (op_run p.sqe.op) ≡ false
   runs_kind = let same' : k.kind.0 ≡ run_as p.sqe = (let z = sym k.kind.1 ∙ runs_placed in cc) in ap (λ (e : Entry). is_timer e.op) (sym same') ∙ k.kind.2
 
-  -- the same with another parcel of the same entry and bytes
-  pub runs_same : (c : Parcel) → c.sqe ≡ p.sqe → c.last ≡ p.last → c.buffer.items ≡ p.buffer.items → RunsIt table v x g r c pipes
+  -- the same with another submission of the same entry and bytes
+  pub runs_same : (c : Submission) → c.sqe ≡ p.sqe → c.last ≡ p.last → c.buffer.items ≡ p.buffer.items → RunsIt table v x g r c pipes
   runs_same c sqe last items = record {
     req_is = k.req_is;
     fits = k.fits;
@@ -222,7 +222,7 @@ module _ (table : TableId) (v w : View) (x g : ℕ) (r : Req) (p : Parcel) (pipe
     role = k.role;
     parts = k.parts;
     kind = k.kind;
-    parcel = (k.parcel.0, k.parcel.1 ∙ (λ i. Some (record { entry = sym sqe i; bytes = k.parcel.0; last = sym last i })), items ∙ k.parcel.2);
+    submission = (k.submission.0, k.submission.1 ∙ (λ i. Some (record { entry = sym sqe i; bytes = k.submission.0; last = sym last i })), items ∙ k.submission.2);
     orderly = k.orderly;
     legal = k.legal;
   }
@@ -240,22 +240,22 @@ module _ (table : TableId) (v w : View) (x g : ℕ) (r : Req) (p : Parcel) (pipe
   -- it is still placed so once others went on
   pub placed_on : (l : Line) (role : Role) → Extends v l role w → (e : Entry) → IsPlaced (events_of v.seen) r e → IsPlaced (events_of w.seen) r e
   placed_on l role x e is = let S : Setup = setup_of v.layout in let seen : w.seen ≡ (l ∷ x.saw.later) ++ v.seen = ap (λ (z : View). z.seen) x.is ∙ ap (λ (j : List Line). l ∷ j) x.saw.is in
-      subst (λ (j : List Line). IsPlaced (events_of j) r e) (sym seen) (lasts S (λ h. IsPlaced h r e) r (placed_lasts S r e) (l ∷ x.saw.later) v.seen (subst (λ (j : List Line). Legal S (events_of (l ∷ j))) x.saw.is x.legal) (submitted_in S v.seen r _ k.legal k.parcel.1) is)
+      subst (λ (j : List Line). IsPlaced (events_of j) r e) (sym seen) (lasts S (λ h. IsPlaced h r e) r (placed_lasts S r e) (l ∷ x.saw.later) v.seen (subst (λ (j : List Line). Legal S (events_of (l ∷ j))) x.saw.is x.legal) (submitted_in S v.seen r _ k.legal k.submission.1) is)
 
   -- what is said of it stays true
   pub named_on : (l : Line) (role : Role) → Extends v l role w → (P : Entry → Type 0) → ((e : Entry) → IsPlaced (events_of v.seen) r e → P e) → (e : Entry) → IsPlaced (events_of w.seen) r e → P e
   named_on l role x P f e is = let same' : run_as p.sqe ≡ e = (let z = sym (placed_on l role x (run_as p.sqe) runs_placed) ∙ is in cc) in subst P same' (f (run_as p.sqe) runs_placed)
 
 -- who begins a request runs it
-pub runs_begun : (table : TableId) (v w : View) (x g : ℕ) (r : Req) (p : Parcel) (pipes : ℕ) → Extends v (Did (Begin r)) (Busy r) w → request_at v.layout.cells x g ≡ r → (x < 16384) × IsCell v.layout.cells x × (claim_at x + 7 < table.words) × (g < 16777216) → (length v.layout.caps ≡ pipes) × (pipes ≤ 64) → 0 < v.parts → IsParcel w.seen r [] p → RunsIt table w x g r p pipes
-runs_begun table v w x g r p pipes e req_is fits pipes_are parts parcel =
+pub runs_begun : (table : TableId) (v w : View) (x g : ℕ) (r : Req) (p : Submission) (pipes : ℕ) → Extends v (Did (Begin r)) (Busy r) w → request_at v.layout.cells x g ≡ r → (x < 16384) × IsCell v.layout.cells x × (claim_at x + 7 < table.words) × (g < 16777216) → (length v.layout.caps ≡ pipes) × (pipes ≤ 64) → 0 < v.parts → IsSubmission w.seen r [] p → RunsIt table w x g r p pipes
+runs_begun table v w x g r p pipes e req_is fits pipes_are parts submission =
     let same = sym (layout_after v w (Did (Begin r)) (Busy r) e) in let seen = sym (ap (λ (z : View). z.seen) e.is) in let may = e.legal.0.1 in record {
       req_is = subst (λ (L : Layout). request_at L.cells x g ≡ r) same req_is;
       fits = (fits.0, subst (λ (L : Layout). IsCell L.cells x) same fits.1, fits.2, fits.3);
       pipes_are = (subst (λ (L : Layout). length L.caps ≡ pipes) same pipes_are.0, pipes_are.1);
       role = role_after v w (Did (Begin r)) (Busy r) e;
       parts = subst (λ (n : ℕ). 0 < n) (sym (parts_after v w (Did (Begin r)) (Busy r) e)) parts;
-      parcel = parcel;
+      submission = submission;
       kind = subst (λ (j : List Line). IsOfKind (events_of j) r is_timer false) seen may.2;
       orderly = subst (λ (z : Layout × List Line). Orderly z.0 z.1) (λ i. (same i, seen i)) e.orderly;
       legal = subst (λ (z : Layout × List Line). Legal (setup_of z.0) (events_of z.1)) (λ i. (same i, seen i)) e.legal;
@@ -330,17 +330,17 @@ HasEmpty L c = (c.lying.items ≡ []) × (vec_capacity c.lying ≡ total L.cells
 
 -- ---- when a worker may reply
 
-module _ (table : TableId) (me : Seated) (x g : ℕ) (r : Req) (p : Parcel) (pipes : ℕ) (k : RunsIt table me.0 x g r p pipes) where
+module _ (table : TableId) (me : Seated) (x g : ℕ) (r : Req) (p : Submission) (pipes : ℕ) (k : RunsIt table me.0 x g r p pipes) where
   abbrev q : Req
   q = request_at me.0.layout.cells x g
 
-  may_by : (c : Parcel) (e : Entry) (res : ℤ) (data' : List ℕ) → IsPlaced (events_of me.0.seen) r e → me.1 ≡ (slot_at x, Some (Full c)) ∷ rest me.1 → c.sqe ≡ p.sqe → c.last ≡ p.last → c.buffer.items ≡ over data' p.buffer.items
+  may_by : (c : Submission) (e : Entry) (res : ℤ) (data' : List ℕ) → IsPlaced (events_of me.0.seen) r e → me.1 ≡ (slot_at x, Some (Full c)) ∷ rest me.1 → c.sqe ≡ p.sqe → c.last ≡ p.last → c.buffer.items ≡ over data' p.buffer.items
       → OpAnswers me.0.layout.caps (events_of me.0.seen) r e.op res data' → ((n : ℕ) → is_pipe me.0.layout.caps n ≡ true → uses_at e.op n ≡ true → holder me.0.seen n ≡ Some r) → MayReply me x q e res data'
   may_by c e res data' placed_is out sqe last items answers has = subst (λ (z : Req). MayReply me x z e res data') (sym k.req_is) record {
     placed_is = placed_is;
     answers = answers;
     has = has;
-    parcel = (c, out, (k.parcel.0, k.parcel.1 ∙ (λ i. Some (record { entry = sym sqe i; bytes = k.parcel.0; last = sym last i })), items ∙ ap (over data') k.parcel.2));
+    submission = (c, out, (k.submission.0, k.submission.1 ∙ (λ i. Some (record { entry = sym sqe i; bytes = k.submission.0; last = sym last i })), items ∙ ap (over data') k.submission.2));
   }
 
   -- a request that is answered from no pipe of the board
@@ -348,7 +348,7 @@ module _ (table : TableId) (me : Seated) (x g : ℕ) (r : Req) (p : Parcel) (pip
   plain_may res out past answers = may_by p (run_as p.sqe) res [] (runs_placed table me.0 me.0 x g r p pipes k) out refl refl refl answers (λ n there u. absurd (true≢false (sym u ∙ past n (is_below me.0.layout.caps n there))))
 
   -- a request that has its held pipes, of which the pipe n is one
-  pub pipe_may : (c : Parcel) (n : ℕ) (res : ℤ) (data' : List ℕ) → me.1 ≡ (slot_at x, Some (Full c)) ∷ rest me.1 → c.sqe ≡ p.sqe → c.last ≡ p.last → c.buffer.items ≡ over data' p.buffer.items
+  pub pipe_may : (c : Submission) (n : ℕ) (res : ℤ) (data' : List ℕ) → me.1 ≡ (slot_at x, Some (Full c)) ∷ rest me.1 → c.sqe ≡ p.sqe → c.last ≡ p.last → c.buffer.items ≡ over data' p.buffer.items
       → OpAnswers me.0.layout.caps (events_of me.0.seen) r p.sqe.op res data' → uses_at p.sqe.op n ≡ true → HasEach me.0.layout.caps me.0.seen p.sqe.op r → MayReply me x q p.sqe res data'
   pipe_may c n res data' out sqe last items answers used has = may_by c p.sqe res data' (subst (λ (e : Entry). IsPlaced (events_of me.0.seen) r e) (run_piped p.sqe n used) (runs_placed table me.0 me.0 x g r p pipes k)) out sqe last items answers
       (λ m there u. has m (is_below me.0.layout.caps m there) u)
@@ -356,8 +356,8 @@ module _ (table : TableId) (me : Seated) (x g : ℕ) (r : Req) (p : Parcel) (pip
   -- the held pipe is what the reply makes of it
   pub pipe_after : (n : ℕ) (c : WaitedPipe) (res : ℤ) → HasEmpty me.0.layout c → IsPipe (slice_index me.0.layout.caps n) c.pipe (flows p.sqe.op (offered p.sqe.op (contents (events_of me.0.seen)) p.buffer.items) res n (flow (events_of me.0.seen) n)) → PipeIs me.0.layout n (Some (Piped c)) (flows_as (Some p.sqe) (submission (events_of me.0.seen) q) (contents (events_of me.0.seen)) res n (flow (events_of me.0.seen) n), [])
   pipe_after n c res none is =
-      let given : submission (events_of me.0.seen) q ≡ Some (record { entry = p.sqe; bytes = p.buffer.items; last = p.last }) = subst (λ (z : Req). submission (events_of me.0.seen) z ≡ Some (record { entry = p.sqe; bytes = p.buffer.items; last = p.last })) (sym k.req_is) (k.parcel.1 ∙ (λ i. Some (record { entry = p.sqe; bytes = sym k.parcel.2 i; last = p.last }))) in
-      subst (λ (o : Option Submission). PipeIs me.0.layout n (Some (Piped c)) (flows_as (Some p.sqe) o (contents (events_of me.0.seen)) res n (flow (events_of me.0.seen) n), [])) (sym given) (piped_in me.0.layout n c _ [] is none)
+      let given : submission (events_of me.0.seen) q ≡ Some (record { entry = p.sqe; bytes = p.buffer.items; last = p.last }) = subst (λ (z : Req). submission (events_of me.0.seen) z ≡ Some (record { entry = p.sqe; bytes = p.buffer.items; last = p.last })) (sym k.req_is) (k.submission.1 ∙ (λ i. Some (record { entry = p.sqe; bytes = sym k.submission.2 i; last = p.last }))) in
+      subst (λ (o : Option Submitted). PipeIs me.0.layout n (Some (Piped c)) (flows_as (Some p.sqe) o (contents (events_of me.0.seen)) res n (flow (events_of me.0.seen) n), [])) (sym given) (piped_in me.0.layout n c _ [] is none)
 
 pub both_turned : (j : List Line) (p n : ℕ) (r : Req) → HasBoth j p n r → HasBoth j n p r
 both_turned j p n r both = (λ e. both.0 (sym e), both.2, both.1, λ m ne nk. both.3 m nk ne)
@@ -366,7 +366,7 @@ both_turned j p n r both = (λ e. both.0 (sym e), both.2, both.1, λ m ne nk. bo
 pub pipe_still : (v w : View) (n : ℕ) (c : Conduit) → w.layout ≡ v.layout → IsSamePipe v w n → IsPipe (slice_index v.layout.caps n) c (flow (events_of v.seen) n) → IsPipe (slice_index w.layout.caps n) c (flow (events_of w.seen) n)
 pipe_still v w n c layout same' is = subst (λ (z : Layout × Flow). IsPipe (slice_index z.0.caps n) c z.1) (λ i. (sym layout i, (sym same' i).0)) is
 
--- what a worker has in hand that has two pipes, once both were put back, the upper one first, and its parcel's slot is in front
+-- what a worker has in hand that has two pipes, once both were put back, the upper one first, and its submission's slot is in front
 pub in_three_hands : (old a b c d : Seated) (n m s : ℕ) (x y z : Option Thing) → old.1 ≡ (n, None) ∷ (m, None) ∷ (s, z) ∷ [] → a ≡ (old.0, (n, x) ∷ rest old.1) → b ≡ (a.0, turned a.1) → c ≡ (b.0, (m, y) ∷ rest b.1) → d ≡ (c.0, turned c.1) → d ≡ (old.0, (s, z) ∷ (n, x) ∷ (m, y) ∷ [])
 in_three_hands old a b c d n m s x y z out ea eb ec ed =
     let first : a ≡ (old.0, (n, x) ∷ (m, None) ∷ (s, z) ∷ []) = ea ∙ ap (λ (cs : List (ℕ × Option Thing)). (let k : Seated = (old.0, (n, x) ∷ rest cs) in k)) out in

@@ -12,15 +12,15 @@ use Rattle.answers.specs.{IsPipe, UsesBoth}
 use Rattle.steps.specs.declared.line.Laid.{Laid}
 use Rattle.steps.specs.declared.line.Laid.TheVariants.{NoRequest}
 use Rattle.steps.specs.declared.line.Line.{Line}
-use Rattle.steps.specs.declared.parcel.Parcel.{Parcel}
-use Rattle.steps.specs.declared.parcel.Thing.{Thing}
-use Rattle.steps.specs.declared.parcel.Thing.TheVariants.{Full}
-use Rattle.steps.specs.declared.parcel.WaitedPipe.{WaitedPipe}
+use Rattle.steps.specs.declared.slot.Submission.{Submission}
+use Rattle.steps.specs.declared.slot.Thing.{Thing}
+use Rattle.steps.specs.declared.slot.Thing.TheVariants.{Full}
+use Rattle.steps.specs.declared.slot.WaitedPipe.{WaitedPipe}
 use Rattle.steps.specs.declared.view.Role.{Role}
 use Rattle.steps.specs.declared.view.Role.TheVariants.{Idle, Busy}
 use Rattle.steps.specs.declared.view.Step.{Step}
 use Rattle.steps.specs.declared.view.View.{View}
-use Rattle.steps.specs.{Orderly, event_of, events_of, goes_out, holder, lays, lying, setup_of, IsCell, cells_in, request_at, total, claim_at, slot_at, word_of, IsParcel, words_of, HasAlone, HasBoth, owns, IsStep, LiesIn}
+use Rattle.steps.specs.{Orderly, event_of, events_of, goes_out, holder, lays, lying, setup_of, IsCell, cells_in, request_at, total, claim_at, slot_at, word_of, IsSubmission, words_of, HasAlone, HasBoth, owns, IsStep, LiesIn}
 use Rattle.history.specs.Legal.{Legal, IsOf}
 use Rattle.claim.specs.declared.tag.Tag.TheVariants.{Ready}
 use Rattle.work.specs.declared.lists.Lists.{Lists}
@@ -111,14 +111,14 @@ pub record Running : Type 0 where
   pub took : List Req
   pub woken : List Req
 
--- the view of a worker that runs the request r of this cell and generation, whose parcel is p, on a board of so many pipes; r is no timer
-pub record RunsIt (table : TableId) (v : View) (x g : ℕ) (r : Req) (p : Parcel) (pipes : ℕ) : Type 0 where
+-- the view of a worker that runs the request r of this cell and generation, whose submission is p, on a board of so many pipes; r is no timer
+pub record RunsIt (table : TableId) (v : View) (x g : ℕ) (r : Req) (p : Submission) (pipes : ℕ) : Type 0 where
   pub req_is : request_at v.layout.cells x g ≡ r
   pub fits : (x < 16384) × IsCell v.layout.cells x × (claim_at x + 7 < table.words) × (g < 16777216)
   pub pipes_are : (length v.layout.caps ≡ pipes) × (pipes ≤ 64)
   pub role : v.role ≡ Busy r
   pub parts : 0 < v.parts
-  pub parcel : IsParcel v.seen r [] p
+  pub submission : IsSubmission v.seen r [] p
   pub kind : IsOf (events_of v.seen) r is_timer false
   pub orderly : Orderly v.layout v.seen
   pub legal : Legal (setup_of v.layout) (events_of v.seen)
@@ -137,12 +137,12 @@ pub record IsGridOf (table : TableId) (K : List ℕ) (v : View) : Type 0 where
   pub cells_are : v.layout.cells ≡ K
   pub wide : table.words ≡ words_of (total K)
 
--- the parcel with the operation and the user_data of this entry
-abbrev pub with_asked : Parcel → Entry → Parcel
+-- the submission with the operation and the user_data of this entry
+abbrev pub with_asked : Submission → Entry → Submission
 with_asked p e = record p { sqe = record p.sqe { user_data = e.user_data; op = e.op } }
 
 -- what a worker has of the request that it runs. If that is a cancel, it has neither taken a request nor found one running, and there is room for a list of those that it takes
-pub record IsTask (table : TableId) (K : List ℕ) (s : Seat (Option Thing) View) (x g : ℕ) (r : Req) (p : Parcel) (pipes : ℕ) (lists : Lists) : Type 0 where
+pub record IsTask (table : TableId) (K : List ℕ) (s : Seat (Option Thing) View) (x g : ℕ) (r : Req) (p : Submission) (pipes : ℕ) (lists : Lists) : Type 0 where
   pub table_is : s.table_id ≡ table
   pub grid : IsGridOf table K s.me.0
   pub runs : RunsIt table s.me.0 x g r p pipes
@@ -151,7 +151,7 @@ pub record IsTask (table : TableId) (K : List ℕ) (s : Seat (Option Thing) View
   pub marked : AreMarked lists.marks s.me.0.seen
 
 -- the same, with no held pipe
-pub record IsBusySeat (table : TableId) (K : List ℕ) (s : Seat (Option Thing) View) (x g : ℕ) (r : Req) (p : Parcel) (pipes : ℕ) (lists : Lists) : Type 0 where
+pub record IsBusySeat (table : TableId) (K : List ℕ) (s : Seat (Option Thing) View) (x g : ℕ) (r : Req) (p : Submission) (pipes : ℕ) (lists : Lists) : Type 0 where
   pub task : IsTask table K s x g r p pipes lists
   pub out : s.me.1 ≡ (slot_at x, Some (Full p)) ∷ []
   pub bare : (n : ℕ) → holder s.me.0.seen n ≢ Some r
@@ -161,7 +161,7 @@ abbrev pub LiesAs : List ℕ → View → ℕ → WaitedPipe → Type 0
 LiesAs K v n c = (c.lying.items ≡ lying v.seen n) × (vec_capacity c.lying ≡ total K)
 
 -- the same with a held pipe that the entry is answered from, as what was seen tells, and no other
-pub record IsHoldingSeat (table : TableId) (K : List ℕ) (s : Seat (Option Thing) View) (x g : ℕ) (r : Req) (p : Parcel) (pipes n : ℕ) (c : WaitedPipe) (lists : Lists) : Type 0 where
+pub record IsHoldingSeat (table : TableId) (K : List ℕ) (s : Seat (Option Thing) View) (x g : ℕ) (r : Req) (p : Submission) (pipes n : ℕ) (c : WaitedPipe) (lists : Lists) : Type 0 where
   pub task : IsTask table K s x g r p pipes lists
   pub out : s.me.1 ≡ (n, None) ∷ (slot_at x, Some (Full p)) ∷ []
   pub alone : HasAlone s.me.0.seen n r
@@ -177,7 +177,7 @@ pub record Holding : Type 0 where
   pub pipe : ℕ
 
 -- the same with both held pipes that the entry joins, and no other
-pub record IsJoiningSeat (table : TableId) (K : List ℕ) (s : Seat (Option Thing) View) (x g : ℕ) (r : Req) (p : Parcel) (pipes a b : ℕ) (c d : WaitedPipe) (lists : Lists) : Type 0 where
+pub record IsJoiningSeat (table : TableId) (K : List ℕ) (s : Seat (Option Thing) View) (x g : ℕ) (r : Req) (p : Submission) (pipes a b : ℕ) (c d : WaitedPipe) (lists : Lists) : Type 0 where
   pub task : IsTask table K s x g r p pipes lists
   pub out : s.me.1 ≡ (b, None) ∷ (a, None) ∷ (slot_at x, Some (Full p)) ∷ []
   pub both : HasBoth s.me.0.seen a b r

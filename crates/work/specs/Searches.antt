@@ -11,7 +11,7 @@ use Rattle.history.specs.{Matches, NoneLeft as NoMatchLeft, IsBefore, IsPlaced, 
 use Rattle.history.specs.declared.event.Event.{Event}
 use Rattle.history.specs.Legal.{Legal}
 use Rattle.steps.specs.declared.line.Line.TheVariants.{Did}
-use Rattle.steps.specs.declared.parcel.Thing.{Thing}
+use Rattle.steps.specs.declared.slot.Thing.{Thing}
 use Rattle.steps.specs.declared.view.Role.TheVariants.{Busy}
 use Rattle.steps.specs.declared.view.Step.{Step}
 use Rattle.steps.specs.declared.view.View.{View}

@@ -24,7 +24,7 @@ use answers::{NamedPipes, answer_without, pipes_of};
 use entry::{Cqe, Sqe};
 use std::marker::Model;
 use steps::seat::Response;
-use steps::{TableSeat, parcel, pipes, seat};
+use steps::{TableSeat, pipes, seat, slot};
 
 /// A request that a worker runs, and what that asks for: an entry with its operation and its user_data.
 #[derive(Drop)]
@@ -42,13 +42,13 @@ pub(crate) struct Answering<'a> {
 
 impl<'a> Model for Answering<'a> {
     ghost use Rattle.work.specs.Passes.{Running, pass_of, woken_of, with_asked, IsBusySeat};
-    ghost use Rattle.steps.specs.declared.parcel.Parcel.{Parcel};
+    ghost use Rattle.steps.specs.declared.slot.Submission.{Submission};
 
     ghost Value = { Running };
 
     ghost view = { λ b. record { pass = pass_of b.run.seat; req = b.run.task.req; took = b.lists.value.took.items; woken = woken_of b.lists.value } };
 
-    ghost invariant = { λ b. (z : Parcel) × IsBusySeat b.run.task.words.now.table_id b.run.task.grid.now b.run.seat b.run.task.cell b.run.task.generation b.run.task.req (with_asked z b.run.asked) b.run.task.pipes b.lists.value };
+    ghost invariant = { λ b. (z : Submission) × IsBusySeat b.run.task.words.now.table_id b.run.task.grid.now b.run.seat b.run.task.cell b.run.task.generation b.run.task.req (with_asked z b.run.asked) b.run.task.pipes b.lists.value };
 }
 
 impl<'a> Answering<'a> {
@@ -117,7 +117,7 @@ impl<'a> Answering<'a> {
             run,
             lists,
             pipe,
-            waited: parcel::pipe_of(thing),
+            waited: slot::pipe_of(thing),
         })
     }
 

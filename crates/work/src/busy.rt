@@ -26,13 +26,13 @@ pub struct Busy<'a> {
 
 impl<'a> Model for Busy<'a> {
     ghost use Rattle.work.specs.Passes.{Running, pass_of, woken_of, IsBusySeat, IsUnderway};
-    ghost use Rattle.steps.specs.declared.parcel.Parcel.{Parcel};
+    ghost use Rattle.steps.specs.declared.slot.Submission.{Submission};
 
     ghost Value = { Running };
 
     ghost view = { λ b. record { pass = pass_of b.seat; req = b.task.req; took = b.lists.value.took.items; woken = woken_of b.lists.value } };
 
-    ghost invariant = { λ b. IsUnderway b.seat.me.0 b.task.req × (p : Parcel) × IsBusySeat b.task.words.now.table_id b.task.grid.now b.seat b.task.cell b.task.generation b.task.req p b.task.pipes b.lists.value };
+    ghost invariant = { λ b. IsUnderway b.seat.me.0 b.task.req × (p : Submission) × IsBusySeat b.task.words.now.table_id b.task.grid.now b.seat b.task.cell b.task.generation b.task.req p b.task.pipes b.lists.value };
 }
 
 impl<'a> Busy<'a> {

@@ -175,12 +175,12 @@ pub(crate) fn earlier(grid: &Grid, req: Req, k: u64) -> Target
     ensures cell { IsCell grid.now result.cell × (result.cell < 16384) × (result.generation < 16777216) }
     ensures at { request_at grid.now result.cell result.generation ≡ record { ring = req.ring; k = k } }
 {
-    let Some(spot) = grid.locate(Req { ring: req.ring, k }) else {
+    let Some(cell) = grid.locate(Req { ring: req.ring, k }) else {
         unreachable!()
     };
     Target {
-        cell: spot.cell,
-        generation: spot.generation as u32,
+        cell: cell.index,
+        generation: cell.generation as u32,
     }
 }
 

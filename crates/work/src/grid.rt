@@ -6,10 +6,10 @@ use history::Req;
 use std::alloc::{AllocError, Global};
 use std::marker::Model;
 
-/// A request's cell, which generation of it the request is, and the cell's number within its ring.
+/// A request's cell: its place among those of the board, which generation of it the request is, and its number within its ring.
 #[derive(Clone, Copy)]
-pub struct Spot {
-    pub cell: usize,
+pub struct Cell {
+    pub index: usize,
     pub generation: u64,
     pub number: usize,
 }
@@ -109,16 +109,16 @@ impl Grid {
     }
 
     /// Where the request lies: None for a ring that isn't there.
-    pub fn locate(&self, req: Req) -> Option<Spot>
-        ensures some { IfSome result (λ s. IsCell self.now s.cell × (request_at self.now s.cell s.generation ≡ req) × (s.cell < 16384)) }
-        ensures number { IfSome result (λ s. s.number ≡ place_of self.now s.cell) }
+    pub fn locate(&self, req: Req) -> Option<Cell>
+        ensures some { IfSome result (λ s. IsCell self.now s.index × (request_at self.now s.index s.generation ≡ req) × (s.index < 16384)) }
+        ensures number { IfSome result (λ s. s.number ≡ place_of self.now s.index) }
         ensures none { IfNone result (length self.now ≤ req.ring) }
     {
         let row = self.rows.get(usize::from(req.ring))?;
         let (generation, rest) = divided(req.k, row.cells);
         let number = rest as usize;
-        Some(Spot {
-            cell: row.first + number,
+        Some(Cell {
+            index: row.first + number,
             generation,
             number,
         })

@@ -30,13 +30,13 @@ pub(crate) struct Holding<'a> {
 
 impl<'a> Model for Holding<'a> {
     ghost use Rattle.work.specs.Passes.{Holding as Held, pass_of, with_asked, IsHoldingSeat};
-    ghost use Rattle.steps.specs.declared.parcel.Parcel.{Parcel};
+    ghost use Rattle.steps.specs.declared.slot.Submission.{Submission};
 
     ghost Value = { Held };
 
     ghost view = { λ h. record { pass = pass_of h.run.seat; req = h.run.task.req; pipe = h.pipe } };
 
-    ghost invariant = { λ h. (z : Parcel) × IsHoldingSeat h.run.task.words.now.table_id h.run.task.grid.now h.run.seat h.run.task.cell h.run.task.generation h.run.task.req (with_asked z h.run.asked) h.run.task.pipes h.pipe h.waited h.lists.value };
+    ghost invariant = { λ h. (z : Submission) × IsHoldingSeat h.run.task.words.now.table_id h.run.task.grid.now h.run.seat h.run.task.cell h.run.task.generation h.run.task.req (with_asked z h.run.asked) h.run.task.pipes h.pipe h.waited h.lists.value };
 }
 
 impl<'a> Holding<'a> {

@@ -25,7 +25,7 @@ use answers::answer_both;
 use entry::{Cqe, fails};
 use std::marker::Model;
 use steps::seat::Response;
-use steps::{Laid, Thing, WaitedPipe, parcel, pipes};
+use steps::{Laid, Thing, WaitedPipe, pipes, slot};
 
 /// A worker that runs a SPLICE, and has taken both pipes that its entry joins.
 pub(crate) struct Joining<'a> {
@@ -39,13 +39,13 @@ pub(crate) struct Joining<'a> {
 
 impl<'a> Model for Joining<'a> {
     ghost use Rattle.work.specs.Passes.{Joining as Joined, pass_of, with_asked, IsJoiningSeat};
-    ghost use Rattle.steps.specs.declared.parcel.Parcel.{Parcel};
+    ghost use Rattle.steps.specs.declared.slot.Submission.{Submission};
 
     ghost Value = { Joined };
 
     ghost view = { λ k. record { pass = pass_of k.run.seat; req = k.run.task.req; source = k.source; target = k.target } };
 
-    ghost invariant = { λ k. (z : Parcel) × IsJoiningSeat k.run.task.words.now.table_id k.run.task.grid.now k.run.seat k.run.task.cell k.run.task.generation k.run.task.req (with_asked z k.run.asked) k.run.task.pipes k.source k.target k.from k.into k.lists.value };
+    ghost invariant = { λ k. (z : Submission) × IsJoiningSeat k.run.task.words.now.table_id k.run.task.grid.now k.run.seat k.run.task.cell k.run.task.generation k.run.task.req (with_asked z k.run.asked) k.run.task.pipes k.source k.target k.from k.into k.lists.value };
 }
 
 impl<'a> Holding<'a> {
@@ -77,7 +77,7 @@ impl<'a> Holding<'a> {
             source: pipe,
             target,
             from: waited,
-            into: parcel::pipe_of(thing),
+            into: slot::pipe_of(thing),
         })
     }
 }

@@ -19,7 +19,7 @@ mod task;
 pub mod worker;
 
 pub use busy::Busy;
-pub use grid::{Grid, Spot};
+pub use grid::{Cell, Grid};
 pub use lists::Lists;
 pub use pass::{Messenger, Pass};
 pub use run::{Parked, Ran};

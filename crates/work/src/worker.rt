@@ -123,21 +123,21 @@ impl Worker {
         ensures refused { IfErr result (λ w. (w.table ≡ self.table) × ((w.view ≡ self.view) ⊎ Looks self.view w.view) × ((length grid.now ≤ req.ring) ⊎ FoundNotReady grid.now req self.view w.view)) }
     {
         let Worker { mut seat, lists } = self;
-        let Some(spot) = grid.locate(req) else {
+        let Some(cell) = grid.locate(req) else {
             return Err(Worker { seat, lists });
         };
-        if spot.generation >= u64::from(GENERATIONS) {
-            seat::look(words, &mut seat, spot.cell);
+        if cell.generation >= u64::from(GENERATIONS) {
+            seat::look(words, &mut seat, cell.index);
             return Err(Worker { seat, lists });
         }
-        let generation = spot.generation as u32;
-        if !seat::begin(words, &mut seat, spot.cell, generation) {
+        let generation = cell.generation as u32;
+        if !seat::begin(words, &mut seat, cell.index, generation) {
             return Err(Worker { seat, lists });
         }
         let task = Task {
             words,
             grid,
-            cell: spot.cell,
+            cell: cell.index,
             generation,
             req,
             pipes,

@@ -7,7 +7,7 @@ pub returns-then-not-is_held-clause-knows : goal.returns-then-not-is_held-clause
 returns-then-not-is_held-clause-knows c = let b = c.args.board.now in let q = c.args.req in let s = c.args.seat.now in let t = c.is_held.new.seat in let r = c.requires in let f = c.is_held.ensures in knows_on b s t f.watched b.layout.cells q.ring c.args.row.now r.knows
 
 pub take_in-requires-clause-numbered : goal.take_in-requires-clause-numbered
-take_in-requires-clause-numbered c = let b = c.args.board.now in let q = c.args.req in let s = c.args.seat.now in let t = c.is_held.new.seat in let r = c.requires in let f = c.is_held.ensures in numbered_at b.layout.cells c.args.spot.cell c.args.spot.generation q r.at (f.held c.if-not-is_held.false).1
+take_in-requires-clause-numbered c = let b = c.args.board.now in let q = c.args.req in let s = c.args.seat.now in let t = c.is_held.new.seat in let r = c.requires in let f = c.is_held.ensures in numbered_at b.layout.cells c.args.cell.index c.args.cell.generation q r.at (f.held c.if-not-is_held.false).1
 
 pub take_in-requires-clause-born : goal.take_in-requires-clause-born
 take_in-requires-clause-born c = let b = c.args.board.now in let q = c.args.req in let s = c.args.seat.now in let t = c.is_held.new.seat in let r = c.requires in let f = c.is_held.ensures in held_born b t q (still_ours b s t f.watched) (f.held c.if-not-is_held.false).0

@@ -4,7 +4,7 @@ use Rattle.board.proofs.Watching.{born_on, watched_then, gated_found, unended_be
 use Rattle.board.proofs.gating.gate.Goals as goal
 
 pub advance-requires-clause-here : goal.advance-requires-clause-here
-advance-requires-clause-here c = submitted_on c.args.board.now c.args.seat.now c.loop-gating.seat c.args.spot.cell c.args.spot.generation c.args.req c.loop-gating.invariant.watched c.requires.here
+advance-requires-clause-here c = submitted_on c.args.board.now c.args.seat.now c.loop-gating.seat c.args.cell.index c.args.cell.generation c.args.req c.loop-gating.invariant.watched c.requires.here
 
 costs_bound : (x : Gating) → costs_of x + spared_by x ≤ looks_of x + 2
 costs_bound Gating.Shut = omega arith

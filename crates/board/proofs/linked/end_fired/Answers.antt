@@ -5,8 +5,8 @@ use Rattle.board.proofs.linked.end_fired.Goals as goal
 
 pub returns-clause-ends : goal.returns-clause-ends
 returns-clause-ends c = let b = c.args.board.now in let s = c.args.seat.now in let t = c.settle.new.seat in let r = c.requires in let e = c.settle.ensures in ⊎_elim
-    (λ (w : c.settle.result ≡ true). ends_now b s t c.args.req c.args.spot.cell c.args.spot.generation r.armed.ours r.armed.at e.seat.0.0 r.fired (e.settles w))
-    (λ (w : c.settle.result ≡ false). let n : c.settle.result ≢ true = λ z. true≢false (sym z ∙ w) in absurd (ends_missed b s t c.args.req c.args.spot.cell c.args.spot.generation r.armed.ours r.armed.at c.args.deadline r.linked r.armed.armed_is (watched_look b s t r.armed.ours e.seat (e.looks n)) (e.missed n)))
+    (λ (w : c.settle.result ≡ true). ends_now b s t c.args.req c.args.cell.index c.args.cell.generation r.armed.ours r.armed.at e.seat.0.0 r.fired (e.settles w))
+    (λ (w : c.settle.result ≡ false). let n : c.settle.result ≢ true = λ z. true≢false (sym z ∙ w) in absurd (ends_missed b s t c.args.req c.args.cell.index c.args.cell.generation r.armed.ours r.armed.at c.args.deadline r.linked r.armed.armed_is (watched_look b s t r.armed.ours e.seat (e.looks n)) (e.missed n)))
     (bool_cases c.settle.result)
 
 pub returns-clause-steps : goal.returns-clause-steps

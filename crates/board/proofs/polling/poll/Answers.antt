@@ -17,7 +17,7 @@ pub poll_linked-requires-clause-clock : goal.poll_linked-requires-clause-clock
 poll_linked-requires-clause-clock c = let b = c.args.board.now in let s = c.args.seat.now in let r = c.requires in let q = c.args.req in let t = c.deadline_of.new.seat in let e = c.deadline_of.ensures in let w = e.watched in r.clock ∙ sym (clock_watched b s t r.ours.seat w)
 
 pub returns-in_default-alarm : goal.returns-in_default-alarm
-returns-in_default-alarm c = let b = c.args.board.now in let s = c.args.seat.now in let r = c.requires in let q = c.args.req in let t = c.deadline_of.new.seat in let e = c.deadline_of.ensures in let w = e.watched in let m : ℕ = cells_in b.layout.cells q.ring in let few = (numbered_at b.layout.cells c.args.spot.cell c.args.spot.generation q r.at c.in-Some.ensures.told.0.small).few in let v = c.poll_linked.new.seat in
+returns-in_default-alarm c = let b = c.args.board.now in let s = c.args.seat.now in let r = c.requires in let q = c.args.req in let t = c.deadline_of.new.seat in let e = c.deadline_of.ensures in let w = e.watched in let m : ℕ = cells_in b.layout.cells q.ring in let few = (numbered_at b.layout.cells c.args.cell.index c.args.cell.generation q r.at c.in-Some.ensures.told.0.small).few in let v = c.poll_linked.new.seat in
     record { seat = c.poll_linked.ensures.seat; polls = polls_after b q s t 0 1 c.args.alarm r.ours r.knows w (paid_one _ _ s.me.0 t.me.0 e.step.5) v c.args.polling.may_fire c.poll_linked.result (c.poll_linked.ensures.polls); steps = paid_most s.me.0 v.me.0 (1 + 3) (m + 3) (paid_add s.me.0 t.me.0 v.me.0 1 3 (paid_one _ _ s.me.0 t.me.0 e.step.5) c.poll_linked.ensures.steps) (omega arith) }
 
 pub poll_expiry-requires-clause-due : goal.poll_expiry-requires-clause-due

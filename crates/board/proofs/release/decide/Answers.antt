@@ -5,10 +5,10 @@ use Rattle.board.proofs.Watching.{decides_after, paid_on, paid_with}
 use Rattle.board.proofs.release.decide.Goals as goal
 
 pub sever-requires-clause-here : goal.sever-requires-clause-here
-sever-requires-clause-here c = submitted_on c.args.board.now c.args.seat.now c.gate.new.seat c.args.spot.cell c.args.spot.generation c.args.req c.in-Severed.ensures.0.0 c.requires.here
+sever-requires-clause-here c = submitted_on c.args.board.now c.args.seat.now c.gate.new.seat c.args.cell.index c.args.cell.generation c.args.req c.in-Severed.ensures.0.0 c.requires.here
 
 pub free-requires-clause-here : goal.free-requires-clause-here
-free-requires-clause-here c = submitted_on c.args.board.now c.args.seat.now c.gate.new.seat c.args.spot.cell c.args.spot.generation c.args.req c.in-Open.ensures.0.0 c.requires.here
+free-requires-clause-here c = submitted_on c.args.board.now c.args.seat.now c.gate.new.seat c.args.cell.index c.args.cell.generation c.args.req c.in-Open.ensures.0.0 c.requires.here
 
 pub returns-in-Severed : goal.returns-in-Severed
 returns-in-Severed c = record {

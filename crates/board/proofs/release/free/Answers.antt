@@ -11,7 +11,7 @@ returns-then-is_some-clause-decides c = let s = c.args.seat.now in let b = c.arg
     decides_timer b s s q (watched_none b s r.here.ours) (k.timer link, r.open.1, r.open.0, link_timer h q link)
 
 pub hand_on-requires-clause-here : goal.hand_on-requires-clause-here
-hand_on-requires-clause-here c = submitted_on c.args.board.now c.args.seat.now c.is_worked-worked.new.seat c.args.spot.cell c.args.spot.generation c.args.req c.is_worked-worked.ensures.watched c.requires.here
+hand_on-requires-clause-here c = submitted_on c.args.board.now c.args.seat.now c.is_worked-worked.new.seat c.args.cell.index c.args.cell.generation c.args.req c.is_worked-worked.ensures.watched c.requires.here
 
 pub hand_on-requires-clause-open : goal.hand_on-requires-clause-open
 hand_on-requires-clause-open c = let b = c.args.board.now in let q = c.args.req in lasts_on b c.args.seat.now c.is_worked-worked.new.seat c.is_worked-worked.ensures.watched (λ h. Open h q) q (open_lasts (setup_of b.layout) q) c.requires.here.born c.requires.open.1

@@ -18,15 +18,15 @@ returns-then-not-worked-clause-decides c =
 
 pub release-requires-clause-submitted : goal.release-requires-clause-submitted
 release-requires-clause-submitted c = let b = c.args.board.now in let q = c.args.req in let s = c.args.seat.now in let r = c.requires in
-    subst (λ (z : Req). z.k < submits (events_of s.me.0.seen) z.ring) (sym (at_is b s s q c.args.spot.cell c.args.spot.generation r.here.ours r.here.at (λ i. s.table_id))) r.here.born
+    subst (λ (z : Req). z.k < submits (events_of s.me.0.seen) z.ring) (sym (at_is b s s q c.args.cell.index c.args.cell.generation r.here.ours r.here.at (λ i. s.table_id))) r.here.born
 
 pub release-requires-clause-may : goal.release-requires-clause-may
 release-requires-clause-may c = let b = c.args.board.now in let q = c.args.req in let s = c.args.seat.now in let r = c.requires in
-    subst (λ (z : Req). MayBegin s.me.0.seen z) (sym (at_is b s s q c.args.spot.cell c.args.spot.generation r.here.ours r.here.at (λ i. s.table_id)))
+    subst (λ (z : Req). MayBegin s.me.0.seen z) (sym (at_is b s s q c.args.cell.index c.args.cell.generation r.here.ours r.here.at (λ i. s.table_id)))
     (r.open, no_timer (events_of s.me.0.seen) q (λ t link. r.unlinked link.0) (r.worked c.if-not-worked.false))
 
 pub returns-then-release-clause-decides : goal.returns-then-release-clause-decides
-returns-then-release-clause-decides c = let r = c.requires in let e = c.release.ensures in decides_freed c.args.board.now c.args.seat.now c.release.new.seat c.args.req c.args.spot.cell c.args.spot.generation r.here.ours r.here.at e.seat.0.0 (e.frees c.if-release.true) (e.step c.if-release.true)
+returns-then-release-clause-decides c = let r = c.requires in let e = c.release.ensures in decides_freed c.args.board.now c.args.seat.now c.release.new.seat c.args.req c.args.cell.index c.args.cell.generation r.here.ours r.here.at e.seat.0.0 (e.frees c.if-release.true) (e.step c.if-release.true)
 
 pub returns-then-release-clause-steps : goal.returns-then-release-clause-steps
 returns-then-release-clause-steps c = paid_one _ _ c.args.seat.now.me.0 c.release.new.seat.me.0 (c.release.ensures.step c.if-release.true)
@@ -34,7 +34,7 @@ returns-then-release-clause-steps c = paid_one _ _ c.args.seat.now.me.0 c.releas
 pub returns-else-release-clause-decides : goal.returns-else-release-clause-decides
 returns-else-release-clause-decides c = let b = c.args.board.now in let s = c.args.seat.now in let u = c.release.new.seat in let r = c.requires in let e = c.release.ensures in
     let n : c.release.result ≢ true = λ z. true≢false (sym z ∙ c.if-release.false) in
-    decides_missed b s u c.args.req c.args.spot.cell c.args.spot.generation r.here.ours r.here.at e.seat.0.0 (watched_look b s u r.here.ours e.seat (e.looks n)) (e.missed n)
+    decides_missed b s u c.args.req c.args.cell.index c.args.cell.generation r.here.ours r.here.at e.seat.0.0 (watched_look b s u r.here.ours e.seat (e.looks n)) (e.missed n)
 
 pub returns-else-release-clause-steps : goal.returns-else-release-clause-steps
 returns-else-release-clause-steps c = let m = c.release.ensures.missed (λ z. true≢false (sym z ∙ c.if-release.false)) in paid_one _ _ c.args.seat.now.me.0 c.release.new.seat.me.0 m.1

@@ -7,15 +7,15 @@ pub returns-then-not-is_held-clause-knows : goal.returns-then-not-is_held-clause
 returns-then-not-is_held-clause-knows c = knows_on c.args.board.now c.args.seat.now c.is_held.new.seat c.is_held.ensures.watched c.args.board.now.layout.cells c.args.req.ring c.args.row.now c.requires.knows
 
 pub decide-requires : goal.decide-requires
-decide-requires c = let b = c.args.board.now in let s = c.args.seat.now in let t = c.is_held.new.seat in let q = c.args.req in let row = c.args.row.now in let e = c.is_held.ensures in record { here = held_here b t c.args.spot.cell c.args.spot.generation q (still_ours b s t e.watched) c.requires.at (e.held c.if-not-is_held.false).1 (e.held c.if-not-is_held.false).0; watches = watches_held b.layout.cells t.me.0.seen q row (e.held c.if-not-is_held.false).0 (let lt = c.if-req-count.true in let n = c.count.ensures in omega arith) (knows_on b s t e.watched b.layout.cells q.ring row c.requires.knows) }
+decide-requires c = let b = c.args.board.now in let s = c.args.seat.now in let t = c.is_held.new.seat in let q = c.args.req in let row = c.args.row.now in let e = c.is_held.ensures in record { here = held_here b t c.args.cell.index c.args.cell.generation q (still_ours b s t e.watched) c.requires.at (e.held c.if-not-is_held.false).1 (e.held c.if-not-is_held.false).0; watches = watches_held b.layout.cells t.me.0.seen q row (e.held c.if-not-is_held.false).0 (let lt = c.if-req-count.true in let n = c.count.ensures in omega arith) (knows_on b s t e.watched b.layout.cells q.ring row c.requires.knows) }
 
 pub release_by_row-requires : goal.release_by_row-requires
-release_by_row-requires c = let b = c.args.board.now in let s = c.args.seat.now in let t = c.is_held.new.seat in let q = c.args.req in let row = c.args.row.now in let e = c.is_held.ensures in record { here = held_here b t c.args.spot.cell c.args.spot.generation q (still_ours b s t e.watched) c.requires.at (e.held c.if-not-is_held.false).1 (e.held c.if-not-is_held.false).0; knows = knows_on b s t e.watched b.layout.cells q.ring row c.requires.knows }
+release_by_row-requires c = let b = c.args.board.now in let s = c.args.seat.now in let t = c.is_held.new.seat in let q = c.args.req in let row = c.args.row.now in let e = c.is_held.ensures in record { here = held_here b t c.args.cell.index c.args.cell.generation q (still_ours b s t e.watched) c.requires.at (e.held c.if-not-is_held.false).1 (e.held c.if-not-is_held.false).0; knows = knows_on b s t e.watched b.layout.cells q.ring row c.requires.knows }
 
 pub release_next-requires-clause-here : goal.release_next-requires-clause-here
 release_next-requires-clause-here c =
     let b = c.args.board.now in let s = c.args.seat.now in let t = c.is_held.new.seat in let q = c.args.req in let row = c.args.row.now in let e = c.is_held.ensures in
-    held_here b t c.args.spot.cell c.args.spot.generation q (still_ours b s t e.watched) c.requires.at (e.held c.if-not-is_held.false).1 (e.held c.if-not-is_held.false).0
+    held_here b t c.args.cell.index c.args.cell.generation q (still_ours b s t e.watched) c.requires.at (e.held c.if-not-is_held.false).1 (e.held c.if-not-is_held.false).0
 
 pub release_next-requires-clause-knows : goal.release_next-requires-clause-knows
 release_next-requires-clause-knows c =

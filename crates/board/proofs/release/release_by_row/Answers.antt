@@ -11,7 +11,7 @@ returns-then-not-follow-clause-steps c = let s = c.args.seat.now.me.0 in let t =
     paid_with s t (old + 1) (3 * w) (old + 2) 0 c.follow.ensures.steps 0 (omega arith) (omega arith)
 
 pub decide-requires : goal.decide-requires
-decide-requires c = record { here = submitted_on c.args.board.now c.args.seat.now c.follow.new.seat c.args.spot.cell c.args.spot.generation c.args.req c.follow.ensures.watched c.requires.here; watches = c.follow.ensures.watches c.if-not-follow.false }
+decide-requires c = record { here = submitted_on c.args.board.now c.args.seat.now c.follow.new.seat c.args.cell.index c.args.cell.generation c.args.req c.follow.ensures.watched c.requires.here; watches = c.follow.ensures.watches c.if-not-follow.false }
 
 pub returns-clause-decides : goal.returns-clause-decides
 returns-clause-decides c = let f = c.follow.ensures in decides_after c.args.board.now c.args.req c.args.seat.now c.follow.new.seat c.decide.new.seat _ _ c.decide.result f.watched f.steps c.decide.ensures.decides

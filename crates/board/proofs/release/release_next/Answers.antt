@@ -7,7 +7,7 @@ pub returns-in-Some-clause-steps : goal.returns-in-Some-clause-steps
 returns-in-Some-clause-steps c = let old : ℕ = owed c.args.row.now (c.args.req.k + 1) in paid_most c.args.seat.now.me.0 c.release_plain.new.seat.me.0 2 (old + 3) c.release_plain.ensures.steps (omega arith)
 
 pub release_by_row-requires-clause-here : goal.release_by_row-requires-clause-here
-release_by_row-requires-clause-here c = submitted_on c.args.board.now c.args.seat.now c.release_plain.new.seat c.args.spot.cell c.args.spot.generation c.args.req c.in-None.ensures.watched c.requires.here
+release_by_row-requires-clause-here c = submitted_on c.args.board.now c.args.seat.now c.release_plain.new.seat c.args.cell.index c.args.cell.generation c.args.req c.in-None.ensures.watched c.requires.here
 
 pub returns-in-None-clause-decides : goal.returns-in-None-clause-decides
 returns-in-None-clause-decides c = let e = c.in-None.ensures in decides_after c.args.board.now c.args.req c.args.seat.now c.release_plain.new.seat c.release_by_row.new.seat 0 1 c.release_by_row.result e.watched e.step c.release_by_row.ensures.decides

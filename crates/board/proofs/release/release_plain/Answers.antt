@@ -22,7 +22,7 @@ pub returns-then-not-note_plain-clause-steps : goal.returns-then-not-note_plain-
 returns-then-not-note_plain-clause-steps c = paid_with c.args.seat.now.me.0 c.facts_in.new.seat.me.0 1 0 2 0 c.facts_in.ensures.steps 0 (omega arith) (omega arith)
 
 pub hand_on-requires-clause-here : goal.hand_on-requires-clause-here
-hand_on-requires-clause-here c = submitted_on c.args.board.now c.args.seat.now c.facts_in.new.seat c.args.spot.cell c.args.spot.generation c.args.req c.facts_in.ensures.watched c.requires.here
+hand_on-requires-clause-here c = submitted_on c.args.board.now c.args.seat.now c.facts_in.new.seat c.args.cell.index c.args.cell.generation c.args.req c.facts_in.ensures.watched c.requires.here
 
 pub hand_on-requires-clause-open : goal.hand_on-requires-clause-open
 hand_on-requires-clause-open c =

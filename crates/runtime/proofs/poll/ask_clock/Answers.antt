@@ -61,7 +61,7 @@ returns-in_default-tick-clause-follows g c f =
     let time = c.clock-now.ensures.clock ∙ sym (clock_kept _ _ _ [] (goes_on _ _ _ _ c.phase_of-phase.ensures.looks) role refl) in
     let before = heard (g.C.Clock.follows c.args.clock.now) (g.met.C.Clock.stays c.args.clock.now) _ _ _ _ _ _ c.phase_of-phase.ensures.looks role c.ask.ensures c.phase_of-phase.ensures.asked f in
     let refused = c.in_default-tick.ensures.refused in
-    stops_along (g.C.Clock.follows c.tell.new.self) _ _ _ c.in-Some.to c.phase_of-phase.ensures.looks.kept refused.0 refused.1 (c.in-Some.ensures c.phase_of-phase.new.poller.view.seen before.0 time before.1)
+    stops_along (g.C.Clock.follows c.advance.new.self) _ _ _ c.in-Some.to c.phase_of-phase.ensures.looks.kept refused.0 refused.1 (c.in-Some.ensures c.phase_of-phase.new.poller.view.seen before.0 time before.1)
 
 pub returns-clause-follows : goal.returns-clause-follows
 returns-clause-follows g c f =
@@ -69,4 +69,4 @@ returns-clause-follows g c f =
     let time = c.clock-now.ensures.clock ∙ sym (clock_kept _ _ _ [] (goes_on _ _ _ _ c.phase_of-phase.ensures.looks) role refl) in
     let before = heard (g.C.Clock.follows c.args.clock.now) (g.met.C.Clock.stays c.args.clock.now) _ _ _ _ _ _ c.phase_of-phase.ensures.looks role c.ask.ensures c.phase_of-phase.ensures.asked f in
     let still : IsPollers c.phase_of-phase.new.poller = (role.0, c.phase_of-phase.ensures.looks.role_is ∙ role.1) in
-    goes_along (g.C.Clock.follows c.tell.new.self) _ _ _ c.in-Some.to still c.in-Ok.ensures.goes (c.in-Some.ensures c.phase_of-phase.new.poller.view.seen before.0 time before.1)
+    goes_along (g.C.Clock.follows c.advance.new.self) _ _ _ c.in-Some.to still c.in-Ok.ensures.goes (c.in-Some.ensures c.phase_of-phase.new.poller.view.seen before.0 time before.1)

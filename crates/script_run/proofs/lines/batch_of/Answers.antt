@@ -1,6 +1,6 @@
 use Rattle.script_run.proofs.Common.{AreEntries, List, Some, [], add-one, ap, get_or, refl, slice_get, subst, sym, take, take-suc, ℕ, ◌++◌, ◌+◌, ◌∙◌, ◌∷◌, ◌≡◌}
 use Rattle.script_run.proofs.ClientCalls.{entries_more}
-use Rattle.script_run.proofs.HandSteps.{element_at}
+use Rattle.script_run.proofs.ActorSteps.{element_at}
 use Rattle.script_run.proofs.lines.batch_of.Goals as goal
 
 pub loop-place-preserved : goal.loop-place-preserved

@@ -1,5 +1,5 @@
 use Rattle.script_run.proofs.Common.{refl}
-use Rattle.script_run.proofs.HandSteps.{element_at}
+use Rattle.script_run.proofs.ActorSteps.{element_at}
 use Rattle.script_run.proofs.run.label_of.Goals as goal
 
 pub returns-in_ok-clone-in-Some : goal.returns-in_ok-clone-in-Some

@@ -8,7 +8,7 @@ leave-requires c =
     let a = c.requires.answer in let f = c.requires.pipe_fits in let v : View = c.args.seat.now.me.0 in let w : View = c.reply_holding.new.seat.me.0 in let p : ℕ = c.args.pipe in
     let q : Req = request_at v.layout.cells c.args.response.cell c.args.response.generation in
     let x : Extends v (Did (Reply q c.args.response.res a.1)) (Leaving q) w = c.reply_holding.ensures.replies a.0 a.1 a.2 in let there = lt-ltb p (length v.layout.caps) f.2 in
-    let same : w.layout ≡ v.layout = layout_after v w (Did (Reply q c.args.response.res a.1)) (Leaving q) x in let given = a.2.parcel in
+    let same : w.layout ≡ v.layout = layout_after v w (Did (Reply q c.args.response.res a.1)) (Leaving q) x in let given = a.2.submission in
     let now = pipe_replied v w q p c.requires.busy (Leaving q) c.args.response.res a.1 there x c.args.seat.now.me.1 c.requires.alone.0 a.0 _ a.2.placed_is given.2.1 a.2.answers a.2.has a.4 in record {
       fits = (c.reply_holding.ensures.seat.0.0 ∙ f.0, f.1, subst (λ (z : Layout). p < length z.caps) (sym same) f.2, f.3);
       leaving = (q, role_after v w (Did (Reply q c.args.response.res a.1)) (Leaving q) x, alone_replied v w q p c.requires.busy (Leaving q) c.args.response.res a.1 there x c.requires.alone);

@@ -9,7 +9,7 @@ leave_both-requires c =
     let q : Req = request_at v.layout.cells c.args.response.cell c.args.response.generation in let e = c.reply_holding.ensures in let both = c.requires.both in
     let x : Extends v (Did (Reply q c.args.response.res a.1)) (Leaving q) w = e.replies a.0 a.1 a.2 in
     let there : is_pipe v.layout.caps p ≡ true = lt-ltb p (length v.layout.caps) f.0.2 in let there' : is_pipe v.layout.caps n ≡ true = lt-ltb n (length v.layout.caps) f.1.2 in
-    let same : w.layout ≡ v.layout = layout_after v w (Did (Reply q c.args.response.res a.1)) (Leaving q) x in let given = a.2.parcel in let table = e.seat.0.0 in
+    let same : w.layout ≡ v.layout = layout_after v w (Did (Reply q c.args.response.res a.1)) (Leaving q) x in let given = a.2.submission in let table = e.seat.0.0 in
     let top = pipe_replied v w q p c.requires.busy (Leaving q) c.args.response.res a.1 there x c.args.seat.now.me.1 both.1 a.0 _ a.2.placed_is given.2.1 a.2.answers a.2.has a.4.0 in
     let under = pipe_replied v w q n c.requires.busy (Leaving q) c.args.response.res a.1 there' x (rest c.args.seat.now.me.1) both.2 a.0 _ a.2.placed_is given.2.1 a.2.answers a.2.has a.4.1 in record {
       fits = ((table ∙ f.0.0, f.0.1, subst (λ (z : Layout). p < length z.caps) (sym same) f.0.2, f.0.3), (table ∙ f.1.0, f.1.1, subst (λ (z : Layout). n < length z.caps) (sym same) f.1.2, f.1.3));

@@ -3,7 +3,7 @@ use Rattle.steps.proofs.ReplyPark.{park_allows}
 use Rattle.steps.proofs.seat.park.Goals as goal
 
 pub compare_exchange-requires : goal.compare_exchange-requires
-compare_exchange-requires c = let f = c.requires.fits in let h = c.requires.parcel in
+compare_exchange-requires c = let f = c.requires.fits in let h = c.requires.submission in
     rw c.claim_word.ensures (f.0, omega arith, park_allows _ _ c.args.seat.now.me c.args.cell c.args.generation h.0 [] c.requires.busy f.2 c.requires.small h.1 h.2 _ _ _ c.requires.unhit refl c.requires.bare c.running-running.ensures c.ready-ready.ensures)
 
 pub returns : goal.returns

@@ -6,7 +6,7 @@ use Rattle.steps.proofs.ReplyPark.{reply_allows}
 use Rattle.steps.proofs.seat.reply.Goals as goal
 
 pub compare_exchange-requires : goal.compare_exchange-requires
-compare_exchange-requires c = let f = c.requires.fits in let a = c.requires.answer in let h = a.2.parcel in let res = c.args.response.res in let b = of_z w32 res in let bits = bits_are res b (search rules) refl in let bits' : reply_bits (to_z w32 b) b = subst (λ (z : ℤ). reply_bits z b) (sym (to_z-of_z w32 res (search rules))) bits in rw c.claim_word.ensures (
+compare_exchange-requires c = let f = c.requires.fits in let a = c.requires.answer in let h = a.2.submission in let res = c.args.response.res in let b = of_z w32 res in let bits = bits_are res b (search rules) refl in let bits' : reply_bits (to_z w32 b) b = subst (λ (z : ℤ). reply_bits z b) (sym (to_z-of_z w32 res (search rules))) bits in rw c.claim_word.ensures (
   f.0,
   omega arith,
   reply_allows _ _ c.args.seat.now.me c.args.response.cell c.args.response.generation h.0 a.1 c.requires.busy f.2 c.requires.small h.1 h.2 _ a.0 b _ _ res a.2 c.requires.bare c.running-running.ensures

@@ -18,7 +18,7 @@ unreachable-requires c = let f = c.requires.fits in let t = (c.store.ensures.2 c
 
 pub returns-clause-seat : goal.returns-clause-seat
 returns-clause-seat c = let f = c.requires.fits in let t = (c.store.ensures.2 c.args.cell c.args.generation c.note_word.ensures f.2 c.requires.free).0 in
-    ((c.exchange.ensures.0 ∙ c.store.ensures.0, c.exchange.ensures.1 ∙ c.store.ensures.1), ap (λ m. m.1) c.exchange.ensures.3 ∙ (λ i. (c.slot.ensures i, Some (Full c.args.parcel)) ∷ rest (t.1 i)))
+    ((c.exchange.ensures.0 ∙ c.store.ensures.0, c.exchange.ensures.1 ∙ c.store.ensures.1), ap (λ m. m.1) c.exchange.ensures.3 ∙ (λ i. (c.slot.ensures i, Some (Full c.args.submission)) ∷ rest (t.1 i)))
 
 pub returns-clause-lends : goal.returns-clause-lends
 returns-clause-lends c = let f = c.requires.fits in let q : Req = request_at c.args.seat.now.me.0.layout.cells c.args.cell c.args.generation in let t = (c.store.ensures.2 c.args.cell c.args.generation c.note_word.ensures f.2 c.requires.free).0 in

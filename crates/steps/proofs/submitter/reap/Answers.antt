@@ -1,5 +1,5 @@
 use Rattle.steps.proofs.Common.{Bool, Did, Extends, IsDone, Layout, Lending, None, Reap, Req, Submitter, View, ap, cond, data_of, events_of, lent, refl, request_at, rest, ring_of, same_itself, slot_at, subst, sym, true, ℕ, ◌<◌, ◌∙◌, ◌∷◌, ◌≡◌}
-use Rattle.steps.proofs.ViewsKept.{layout_after, role_after, parts_after, replied_after, placed_after, fits_after, submitter_can, parcel_after}
+use Rattle.steps.proofs.ViewsKept.{layout_after, role_after, parts_after, replied_after, placed_after, fits_after, submitter_can, submission_after}
 use Rattle.steps.proofs.submitter.reap.Goals as goal
 
 pub reap_emptied-requires : goal.reap_emptied-requires
@@ -27,6 +27,6 @@ returns c = let v = c.args.seat.now.me.0 in let w = c.empty-returned.new.seat.me
     let y = subst (λ (M : Layout). Extends w (Did (Reap (request_at M.cells c.args.cell c.args.generation))) (Submitter (ring_of M.cells c.args.cell)) u) (layout_after v w _ _ x) c.reap_emptied.ensures.reaps in record {
       seat = ((c.reap_emptied.ensures.seat.0.0 ∙ c.empty-returned.ensures.seat.0.0, c.reap_emptied.ensures.seat.0.1 ∙ c.empty-returned.ensures.seat.0.1), c.reap_emptied.ensures.seat.1 ∙ ap rest c.empty-returned.ensures.seat.1);
       reaps = (w, x, y);
-      parcel = (let p = c.empty-returned.ensures.parcel in (p.0, parcel_after w u _ _ y r (data_of (events_of v.seen) r) p.0 p.1, p.2, p.3));
+      submission = (let p = c.empty-returned.ensures.submission in (p.0, submission_after w u _ _ y r (data_of (events_of v.seen) r) p.0 p.1, p.2, p.3));
       steps = (w, c.empty-returned.ensures.step, (_, c.reap_emptied.ensures.step));
     }

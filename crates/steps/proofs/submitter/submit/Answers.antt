@@ -1,5 +1,5 @@
 use Rattle.steps.specs.Notes.{words_in}
-use Rattle.steps.proofs.Common.{AreSteps, Bool, Did, Extends, ExtendsAfter, Full, IsCell, Layout, Lending, Noted, Option, Req, Role, Some, Submission, Submit, Submitter, Vacant, ap, arith, before_in, claim_at, cond, count_in, count_notes, eq-eqb, events_of, facts_at, facts_of, ne_eqb, noted, placed_behind, refl, request_at, rest, ring_of, slot_at, submits, subst, sym, true, user_at, ℕ, ◌<◌, ◌∙◌, ◌∷◌, ◌≡◌}
+use Rattle.steps.proofs.Common.{AreSteps, Bool, Did, Extends, ExtendsAfter, Full, IsCell, Layout, Lending, Noted, Option, Req, Role, Some, Submitted, Submit, Submitter, Vacant, ap, arith, before_in, claim_at, cond, count_in, count_notes, eq-eqb, events_of, facts_at, facts_of, ne_eqb, noted, placed_behind, refl, request_at, rest, ring_of, slot_at, submits, subst, sym, true, user_at, ℕ, ◌<◌, ◌∙◌, ◌∷◌, ◌≡◌}
 use Rattle.steps.proofs.ViewsKept.{layout_after, role_after, parts_after, submits_after, noted_after, before_after, vacant_after, fits_after, submitter_can, lender_can}
 use Rattle.steps.proofs.submitter.submit.Goals as goal
 
@@ -15,7 +15,7 @@ note-requires c = let s = c.requires.submitter in let v = c.args.seat.now.me.0 i
 
 pub submit_noted-requires : goal.submit_noted-requires
 submit_noted-requires c = let f = c.requires.fits in let s = c.requires.submitter in let v = c.args.seat.now.me.0 in let w = c.fill-facts.new.seat.me.0 in let u = c.note.new.seat.me.0 in let x = c.fill-facts.ensures.lends in
-    let cell = c.args.cell in let g = c.args.generation in let p = c.args.parcel in let r : Req = request_at v.layout.cells cell g in
+    let cell = c.args.cell in let g = c.args.generation in let p = c.args.submission in let r : Req = request_at v.layout.cells cell g in
     let layout : w.layout ≡ v.layout = layout_after v w _ _ x in let y = c.note.ensures.notes in
     let same' : u.layout ≡ w.layout = layout_after w u _ _ y in let both : u.layout ≡ v.layout = same' ∙ layout in
     let role : w.role ≡ Lending r = role_after v w _ _ x in
@@ -34,11 +34,11 @@ submit_noted-requires c = let f = c.requires.fits in let s = c.requires.submitte
       submitter = (subst (λ (M : Layout). u.role ≡ Lending (request_at M.cells cell g)) (sym both) (role_after w u _ _ y ∙ role), subst (λ (n : ℕ). 0 < n) (sym (parts_after w u _ _ y ∙ parts_after v w _ _ x)) s.1);
       free = subst (λ (M : Layout). Vacant M.cells u.seen cell g) (sym same') (vacant_after w u _ _ (λ j. refl) y cell g second' free');
       next = subst (λ (M : Layout). (request_at M.cells cell g).k ≡ submits (events_of u.seen) (ring_of M.cells cell)) (sym both) next';
-      filled = (p, (c.note.ensures.seat.1 ∙ c.fill-facts.ensures.seat.1) ∙ ap (λ cs. (slot_at cell, Some (Full p)) ∷ rest cs) (sym (c.note.ensures.seat.1 ∙ c.fill-facts.ensures.seat.1)), c.requires.buffer, facts ∙ ap (λ (b : Option Submission). facts_of g (placed_behind b p.sqe) p.last) (sym before), user, sym counted);
+      filled = (p, (c.note.ensures.seat.1 ∙ c.fill-facts.ensures.seat.1) ∙ ap (λ cs. (slot_at cell, Some (Full p)) ∷ rest cs) (sym (c.note.ensures.seat.1 ∙ c.fill-facts.ensures.seat.1)), c.requires.buffer, facts ∙ ap (λ (b : Option Submitted). facts_of g (placed_behind b p.sqe) p.last) (sym before), user, sym counted);
     }
 
 pub returns : goal.returns
-returns c = let v = c.args.seat.now.me.0 in let w = c.fill-facts.new.seat.me.0 in let u = c.note.new.seat.me.0 in let t = c.submit_noted.new.seat.me.0 in let x = c.fill-facts.ensures.lends in let p = c.args.parcel in
+returns c = let v = c.args.seat.now.me.0 in let w = c.fill-facts.new.seat.me.0 in let u = c.note.new.seat.me.0 in let t = c.submit_noted.new.seat.me.0 in let x = c.fill-facts.ensures.lends in let p = c.args.submission in
     let cell = c.args.cell in let g = c.args.generation in let r : Req = request_at v.layout.cells cell g in let ring = ring_of v.layout.cells cell in
     let layout : w.layout ≡ v.layout = layout_after v w _ _ x in let role : w.role ≡ Lending r = role_after v w _ _ x in
     let y = c.note.ensures.notes in let same' : u.layout ≡ w.layout = layout_after w u _ _ y in

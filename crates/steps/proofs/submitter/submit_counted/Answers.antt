@@ -1,4 +1,4 @@
-use Rattle.steps.proofs.Common.{Bool, Did, Extends, Full, Layout, Lending, Noted, Option, Req, Role, Some, Submission, Submit, Submitter, Vacant, ap, arith, before_in, cond, count_at, eq-eqb, events_of, facts_at, facts_of, ne_eqb, noted, placed_behind, refl, request_at, rest, ring_of, slot_at, submits, subst, sym, user_at, ℕ, ◌<◌, ◌∙◌, ◌∷◌, ◌≡◌}
+use Rattle.steps.proofs.Common.{Bool, Did, Extends, Full, Layout, Lending, Noted, Option, Req, Role, Some, Submitted, Submit, Submitter, Vacant, ap, arith, before_in, cond, count_at, eq-eqb, events_of, facts_at, facts_of, ne_eqb, noted, placed_behind, refl, request_at, rest, ring_of, slot_at, submits, subst, sym, user_at, ℕ, ◌<◌, ◌∙◌, ◌∷◌, ◌≡◌}
 use Rattle.steps.proofs.Submissions.{count_is}
 use Rattle.steps.proofs.ViewsKept.{layout_after, role_after, parts_after, submits_after, noted_after, before_after, vacant_after, fits_after, lender_can}
 use Rattle.steps.proofs.submitter.submit_counted.Goals as goal
@@ -16,7 +16,7 @@ submit_filled-requires c = let f = c.requires.fits in let s = c.requires.submitt
       submitter = (subst (λ (M : Layout). w.role ≡ Lending (request_at M.cells cell g)) (sym layout) (role_after v w _ _ y ∙ s.0), subst (λ (n : ℕ). 0 < n) (sym (parts_after v w _ _ y)) s.1);
       free = subst (λ (M : Layout). Vacant M.cells w.seen cell g) (sym layout) (vacant_after v w _ _ (λ j. refl) y cell g mine c.requires.free);
       next = subst (λ (M : Layout). (request_at M.cells cell g).k ≡ submits (events_of w.seen) (ring_of M.cells cell)) (sym layout) (c.requires.next ∙ sym (submits_after v w _ _ (λ j. refl) y (ring_of v.layout.cells cell) mine));
-      filled = (p, c.note.ensures.seat.1 ∙ (h.1 ∙ ap (λ cs. (slot_at cell, Some (Full p)) ∷ rest cs) (sym c.note.ensures.seat.1)), h.2, facts ∙ (h.3 ∙ ap (λ (b : Option Submission). facts_of g (placed_behind b p.sqe) p.last) (sym before)), user ∙ h.4, λ t. count ∙ count_is p.sqe.op c.args.count h.5 t);
+      filled = (p, c.note.ensures.seat.1 ∙ (h.1 ∙ ap (λ cs. (slot_at cell, Some (Full p)) ∷ rest cs) (sym c.note.ensures.seat.1)), h.2, facts ∙ (h.3 ∙ ap (λ (b : Option Submitted). facts_of g (placed_behind b p.sqe) p.last) (sym before)), user ∙ h.4, λ t. count ∙ count_is p.sqe.op c.args.count h.5 t);
     }
 
 pub returns : goal.returns

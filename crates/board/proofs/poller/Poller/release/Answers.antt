@@ -5,18 +5,18 @@ use Rattle.board.proofs.RowsKept.{rows_goes, at_index}
 use Rattle.board.proofs.poller.Poller.release.Goals as goal
 
 pub index_mut-requires : goal.index_mut-requires
-index_mut-requires c = let r = c.requires in let at = r.at in let lt = ring_in c.args.board.now.layout.cells c.args.spot.cell at.inside.0 in let ring = ap (λ (q : Req). q.ring) at.at in let n = c.self.invariant.1.count in let same = ap (λ (L : Layout). length L.cells) r.ours.layout_is in let view = ap (λ (p : Pass). length p.view.layout.cells) c.self.view_is in
+index_mut-requires c = let r = c.requires in let at = r.at in let lt = ring_in c.args.board.now.layout.cells c.args.cell.index at.inside.0 in let ring = ap (λ (q : Req). q.ring) at.at in let n = c.self.invariant.1.count in let same = ap (λ (L : Layout). length L.cells) r.ours.layout_is in let view = ap (λ (p : Pass). length p.view.layout.cells) c.self.view_is in
     let v = c.self.inside.rows.ok.0 in let f = c.from-ring.ensures in omega arith
 
 pub release-requires-clause-knows : goal.release-requires-clause-knows
 release-requires-clause-knows c =
-    let r = c.requires in let at = r.at in let lt = ring_in c.args.board.now.layout.cells c.args.spot.cell at.inside.0 in let ring = ap (λ (q : Req). q.ring) at.at in let i = c.self.invariant.1 in let n = i.count in
+    let r = c.requires in let at = r.at in let lt = ring_in c.args.board.now.layout.cells c.args.cell.index at.inside.0 in let ring = ap (λ (q : Req). q.ring) at.at in let i = c.self.invariant.1 in let n = i.count in
     let same : c.self.inside.seat.me.0.layout ≡ c.args.board.now.layout = ap (λ (p : Pass). p.view.layout) c.self.view_is ∙ r.ours.layout_is in let long = ap (λ (L : Layout). length L.cells) same in let f = c.from-ring.ensures in let row = c.index_mut.result.now in let seen = c.self.inside.seat.me.0.seen in
     subst (λ (K : List ℕ). KnowsRow K seen c.args.req.ring row) (ap (λ (L : Layout). L.cells) same) (subst (λ (m : ℕ). KnowsRow c.self.inside.seat.me.0.layout.cells seen m row) f (i.each c.from-ring.result row (at_index c.self.inside.rows.items c.from-ring.result row (omega arith) c.index_mut.ensures.value)))
 
 pub invariant_of-self : goal.invariant_of-self
 invariant_of-self c =
-    let r = c.requires in let at = r.at in let lt = ring_in c.args.board.now.layout.cells c.args.spot.cell at.inside.0 in let ring = ap (λ (q : Req). q.ring) at.at in let i = c.self.invariant.1 in let n = i.count in
+    let r = c.requires in let at = r.at in let lt = ring_in c.args.board.now.layout.cells c.args.cell.index at.inside.0 in let ring = ap (λ (q : Req). q.ring) at.at in let i = c.self.invariant.1 in let n = i.count in
     let same : c.self.inside.seat.me.0.layout ≡ c.args.board.now.layout = ap (λ (p : Pass). p.view.layout) c.self.view_is ∙ r.ours.layout_is in let long = ap (λ (L : Layout). length L.cells) same in let f = c.from-ring.ensures in let e = c.release.ensures in
     let b = c.args.board.now in let s = c.self.inside.seat in let t = c.release.new.seat in let rows = c.self.inside.rows.items in (
       e.seat,

@@ -6,7 +6,7 @@ use Rattle.runtime.proofs.client.Client.submit_batch.Goals as goal
 pub returns-in-Ok-clause-free : goal.returns-in-Ok-clause-free
 returns-in-Ok-clause-free c =
     let board = ap (λ (s : Shared). s.board) c.deref.ensures ∙ ap (λ (d : ClientFacts). d.board) c.self.view_is in
-    λ (i : ℕ) lt. subst (λ (p : Pass). IsFree c.args.self.now.board.layout.cells (seen_of p) (nth c.in-Ok.req.ring (c.in-Ok.req.k + i))) (sym c.tell.ensures.same.2)
+    λ (i : ℕ) lt. subst (λ (p : Pass). IsFree c.args.self.now.board.layout.cells (seen_of p) (nth c.in-Ok.req.ring (c.in-Ok.req.k + i))) (sym c.publish_tail.ensures.same.2)
     (subst (λ (b : Facts). IsFree b.layout.cells (seen_of c.submit_batch.new.submitter) (nth c.in-Ok.req.ring (c.in-Ok.req.k + i))) board (c.in-Ok.ensures.free i lt))
 
 pub returns-in-Err-clause-reason : goal.returns-in-Err-clause-reason

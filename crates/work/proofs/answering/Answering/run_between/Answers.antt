@@ -1,10 +1,10 @@
-use Rattle.work.proofs.Common.{Busy, Did, Entry, Extends, Free, HasBoth, Hold, Idle, IsPlaced, LaidAtBoth, LaidDown, Layout, Leaving, Legal, Line, List, MissedPipe, NoAnswer, NoRequest, OpAnswers, Parcel, Park, Pass, Reply, Req, Running, TookAlong, Unanswered, UsesBoth, View, [], ap, arith, events_of, inl, inr, layout_after, length, pipe_at, refl, role_after, seen_of, setup_of, subst, sym, uses_joined, with_asked, ℕ, ◌++◌, ◌<◌, ◌∙◌, ◌≡◌}
+use Rattle.work.proofs.Common.{Busy, Did, Entry, Extends, Free, HasBoth, Hold, Idle, IsPlaced, LaidAtBoth, LaidDown, Layout, Leaving, Legal, Line, List, MissedPipe, NoAnswer, NoRequest, OpAnswers, Submission, Park, Pass, Reply, Req, Running, TookAlong, Unanswered, UsesBoth, View, [], ap, arith, events_of, inl, inr, layout_after, length, pipe_at, refl, role_after, seen_of, setup_of, subst, sym, uses_joined, with_asked, ℕ, ◌++◌, ◌<◌, ◌∙◌, ◌≡◌}
 use Rattle.work.proofs.RunsKept.{bare_reply, both_handed, named_on, runs_on, placed_on, quiet_still, quiet_look, quiet_line, ends_by, took_none, took_more, took_both, missed_out, worker_on, worker_left_both, begins_on, begins_both, has_both}
 use Rattle.work.proofs.PipesWaited.{down_later, down_sooner}
 use Rattle.work.proofs.answering.Answering.run_between.Goals as goal
 
 pub prove-unreachable-requires : goal.prove-unreachable-requires
-prove-unreachable-requires c = let own = c.self.inside in let b = own.run.task in let p : Parcel = with_asked c.self.invariant.0 own.run.asked in let i = c.self.invariant.1.task in
+prove-unreachable-requires c = let own = c.self.inside in let b = own.run.task in let p : Submission = with_asked c.self.invariant.0 own.run.asked in let i = c.self.invariant.1.task in
     let both = both_handed b.words.now.table_id own.run.seat.me.0 own.run.seat.me.0 b.cell b.generation b.req p b.pipes i.runs c.args.source c.args.target (subst (λ (k : Running). (e : Entry) → IsPlaced (seen_of k.pass) k.req e → UsesBoth e.op (length k.pass.view.layout.caps) c.args.source c.args.target) (sym c.self.view_is) c.requires.named) in
     let lt : c.args.source < length own.run.seat.me.0.layout.caps = both.source_there in let same = i.runs.pipes_are.0 in omega arith
 
@@ -13,7 +13,7 @@ hold-requires c = record { named = λ e is. (let both = c.requires.named e is in
 
 -- the pipe that was taken is still the source
 pub hold-requires-2 : goal.hold-requires-2
-hold-requires-2 c = let own = c.self.inside in let b = own.run.task in let p : Parcel = with_asked c.self.invariant.0 own.run.asked in let i = c.self.invariant.1.task in let table = b.words.now.table_id in let v : View = c.args.self.pass.view in let r : Req = c.args.self.req in let busy = subst (λ (k : Running). k.pass.view.role ≡ Busy k.req) c.self.view_is i.runs.role in let h = c.in-Ok.ensures.held in let m : View = c.in-Ok.holding.pass.view in
+hold-requires-2 c = let own = c.self.inside in let b = own.run.task in let p : Submission = with_asked c.self.invariant.0 own.run.asked in let i = c.self.invariant.1.task in let table = b.words.now.table_id in let v : View = c.args.self.pass.view in let r : Req = c.args.self.req in let busy = subst (λ (k : Running). k.pass.view.role ≡ Busy k.req) c.self.view_is i.runs.role in let h = c.in-Ok.ensures.held in let m : View = c.in-Ok.holding.pass.view in
     let same : m.layout ≡ v.layout = layout_after v m (Hold r c.args.source) (Busy r) h.4 in
     let on = subst (λ (k : Running). Extends k.pass.view (Hold k.req c.args.source) (Busy k.req) m → (P : Entry → Type 0) → ((e : Entry) → IsPlaced (events_of k.pass.view.seen) k.req e → P e) → (e : Entry) → IsPlaced (events_of m.seen) k.req e → P e) c.self.view_is
     (λ y P. named_on table own.run.seat.me.0 m b.cell b.generation b.req p b.pipes i.runs (Hold b.req c.args.source) (Busy b.req) y P) h.4 in
@@ -25,7 +25,7 @@ returns-in-Err-clause-steps c = let v : View = c.args.self.pass.view in let r : 
 
 -- the source was out
 pub returns-in-Err-clause-ran : goal.returns-in-Err-clause-ran
-returns-in-Err-clause-ran c = let own = c.self.inside in let b = own.run.task in let p : Parcel = with_asked c.self.invariant.0 own.run.asked in let i = c.self.invariant.1.task in let table = b.words.now.table_id in let v : View = c.args.self.pass.view in let r : Req = c.args.self.req in let busy = subst (λ (k : Running). k.pass.view.role ≡ Busy k.req) c.self.view_is i.runs.role in let m : View = c.in-Err.busy.pass.view in let w : View = c.give_up.result.view in let h = c.in-Err.ensures.busy in
+returns-in-Err-clause-ran c = let own = c.self.inside in let b = own.run.task in let p : Submission = with_asked c.self.invariant.0 own.run.asked in let i = c.self.invariant.1.task in let table = b.words.now.table_id in let v : View = c.args.self.pass.view in let r : Req = c.args.self.req in let busy = subst (λ (k : Running). k.pass.view.role ≡ Busy k.req) c.self.view_is i.runs.role in let m : View = c.in-Err.busy.pass.view in let w : View = c.give_up.result.view in let h = c.in-Err.ensures.busy in
     let x = subst (λ (q : Req). Extends m (Did (Park q)) Idle w) h.0 c.give_up.ensures.parked.1 in let out = missed_out v v m w c.args.source r 0 1 (took_none v) h.3 c.give_up.ensures.steps in
     (ends_by v m w r (quiet_look v v m r (quiet_still v r busy) h.2) w (Park r) Idle x refl (role_after m w (Did (Park r)) Idle x), c.give_up.ensures.took, λ e is. (let both = c.requires.named e is in (c.args.source, both.source_there, (uses_joined e.op c.args.source c.args.target both.joins).0, out)))
 
@@ -35,13 +35,13 @@ returns-in-Err-hold-clause-steps c = let v : View = c.args.self.pass.view in let
 
 -- the target was out
 pub returns-in-Err-hold-clause-ran : goal.returns-in-Err-hold-clause-ran
-returns-in-Err-hold-clause-ran c = let own = c.self.inside in let b = own.run.task in let p : Parcel = with_asked c.self.invariant.0 own.run.asked in let i = c.self.invariant.1.task in let table = b.words.now.table_id in let v : View = c.args.self.pass.view in let r : Req = c.args.self.req in let busy = subst (λ (k : Running). k.pass.view.role ≡ Busy k.req) c.self.view_is i.runs.role in let h = c.in-Ok.ensures.held in let m : View = c.in-Ok.holding.pass.view in let a = c.in-Err-hold.ensures.busy in let o : View = c.in-Err-hold.busy.pass.view in let w : View = c.give_up-in-Err-hold.result.view in let missed = subst (λ (q : Req). MissedPipe m a.2 c.args.target q) h.0 a.4 in let t = c.give_up-in-Err-hold.ensures.steps in let out = missed_out v m a.2 w c.args.target r 1 2 (took_more v v m 0 (pipe_at c.args.source) 0 (took_none v) h.3) missed (took_both a.2 o w 1 1 (took_more a.2 a.2 o 0 (pipe_at c.in-Ok.holding.pipe) a.6.0 (took_none a.2) a.6.1) t) in let held = quiet_line v v m r (quiet_still v r busy) (Hold r c.args.source) (λ l. refl) h.4 in
+returns-in-Err-hold-clause-ran c = let own = c.self.inside in let b = own.run.task in let p : Submission = with_asked c.self.invariant.0 own.run.asked in let i = c.self.invariant.1.task in let table = b.words.now.table_id in let v : View = c.args.self.pass.view in let r : Req = c.args.self.req in let busy = subst (λ (k : Running). k.pass.view.role ≡ Busy k.req) c.self.view_is i.runs.role in let h = c.in-Ok.ensures.held in let m : View = c.in-Ok.holding.pass.view in let a = c.in-Err-hold.ensures.busy in let o : View = c.in-Err-hold.busy.pass.view in let w : View = c.give_up-in-Err-hold.result.view in let missed = subst (λ (q : Req). MissedPipe m a.2 c.args.target q) h.0 a.4 in let t = c.give_up-in-Err-hold.ensures.steps in let out = missed_out v m a.2 w c.args.target r 1 2 (took_more v v m 0 (pipe_at c.args.source) 0 (took_none v) h.3) missed (took_both a.2 o w 1 1 (took_more a.2 a.2 o 0 (pipe_at c.in-Ok.holding.pipe) a.6.0 (took_none a.2) a.6.1) t) in let held = quiet_line v v m r (quiet_still v r busy) (Hold r c.args.source) (λ l. refl) h.4 in
     let free = subst (λ (q : Req). Extends a.2 (Free q c.in-Ok.holding.pipe NoRequest) (Busy q) o) h.0 a.5 in let x = subst (λ (q : Req). Extends o (Did (Park q)) Idle w) (a.0 ∙ h.0) c.give_up-in-Err-hold.ensures.parked.1 in
     let bare = quiet_line v a.2 o r (quiet_look v m a.2 r held a.3) (Free r c.in-Ok.holding.pipe NoRequest) (λ l. refl) free in
     (ends_by v o w r bare w (Park r) Idle x refl (role_after o w (Did (Park r)) Idle x), c.give_up-in-Err-hold.ensures.took, λ e is. (let both = c.requires.named e is in (c.args.target, both.target_there, (uses_joined e.op c.args.source c.args.target both.joins).1, out)))
 
 pub returns-in-Ok-answer-clause-kept : goal.returns-in-Ok-answer-clause-kept
-returns-in-Ok-answer-clause-kept c = let own = c.self.inside in let b = own.run.task in let p : Parcel = with_asked c.self.invariant.0 own.run.asked in let i = c.self.invariant.1.task in let table = b.words.now.table_id in let v : View = c.args.self.pass.view in let r : Req = c.args.self.req in let busy = subst (λ (k : Running). k.pass.view.role ≡ Busy k.req) c.self.view_is i.runs.role in let h = c.in-Ok.ensures.held in let m : View = c.in-Ok.holding.pass.view in let j = c.in-Ok-hold.ensures.held in let n : View = c.in-Ok-hold.joining.pass.view in let second = subst (λ (q : Req). Extends m (Hold q c.args.target) (Busy q) n) h.0 j.5 in let mine = j.0 ∙ h.0 in let a = c.in-Ok-answer.ensures.replied in let k = c.in-Ok-hold.joining in
+returns-in-Ok-answer-clause-kept c = let own = c.self.inside in let b = own.run.task in let p : Submission = with_asked c.self.invariant.0 own.run.asked in let i = c.self.invariant.1.task in let table = b.words.now.table_id in let v : View = c.args.self.pass.view in let r : Req = c.args.self.req in let busy = subst (λ (k : Running). k.pass.view.role ≡ Busy k.req) c.self.view_is i.runs.role in let h = c.in-Ok.ensures.held in let m : View = c.in-Ok.holding.pass.view in let j = c.in-Ok-hold.ensures.held in let n : View = c.in-Ok-hold.joining.pass.view in let second = subst (λ (q : Req). Extends m (Hold q c.args.target) (Busy q) n) h.0 j.5 in let mine = j.0 ∙ h.0 in let a = c.in-Ok-answer.ensures.replied in let k = c.in-Ok-hold.joining in
     λ d o. (let first = worker_on d c.args.self.pass c.in-Ok.holding.pass r o h.2 busy (Hold r c.args.source) h.4 in
     let next = worker_on d c.in-Ok.holding.pass k.pass r first j.3 (role_after v m (Hold r c.args.source) (Busy r) h.4) (Hold r c.args.target) second in
     worker_left_both d k.pass c.in-Ok-answer.worker k.req a.1 (Did (Reply k.req c.in-Ok-answer.cqe.res [])) k.source (pipe_at k.target) a.3 (pipe_at k.source) a.4 next a.0 (role_after m n (Hold r c.args.target) (Busy r) second ∙ ap Busy (sym mine)) a.2 a.5)
@@ -51,7 +51,7 @@ returns-in-Ok-answer-clause-steps c = let v : View = c.args.self.pass.view in le
     took_more v y w 4 (pipe_at c.in-Ok-hold.joining.source) s.1.2.2.0 (took_more v x y 3 (pipe_at c.in-Ok-hold.joining.target) s.1.2.1.0 (took_more v n x 2 s.0 s.1.1.0 (took_more v m n 1 (pipe_at c.args.target) 0 (took_more v v m 0 (pipe_at c.args.source) 0 (took_none v) h.3) j.4) s.1.1.1) s.1.2.1.1) s.1.2.2.1
 
 pub returns-in-Ok-answer-clause-ran : goal.returns-in-Ok-answer-clause-ran
-returns-in-Ok-answer-clause-ran c = let own = c.self.inside in let b = own.run.task in let p : Parcel = with_asked c.self.invariant.0 own.run.asked in let i = c.self.invariant.1.task in let table = b.words.now.table_id in let v : View = c.args.self.pass.view in let r : Req = c.args.self.req in let busy = subst (λ (k : Running). k.pass.view.role ≡ Busy k.req) c.self.view_is i.runs.role in let h = c.in-Ok.ensures.held in let m : View = c.in-Ok.holding.pass.view in let j = c.in-Ok-hold.ensures.held in let n : View = c.in-Ok-hold.joining.pass.view in let second = subst (λ (q : Req). Extends m (Hold q c.args.target) (Busy q) n) h.0 j.5 in let mine = j.0 ∙ h.0 in let held = quiet_line v v m r (quiet_still v r busy) (Hold r c.args.source) (λ l. refl) h.4 in let both = quiet_line v m n r held (Hold r c.args.target) (λ l. refl) second in let w : View = c.in-Ok-answer.worker.view in let a = c.in-Ok-answer.ensures.replied in
+returns-in-Ok-answer-clause-ran c = let own = c.self.inside in let b = own.run.task in let p : Submission = with_asked c.self.invariant.0 own.run.asked in let i = c.self.invariant.1.task in let table = b.words.now.table_id in let v : View = c.args.self.pass.view in let r : Req = c.args.self.req in let busy = subst (λ (k : Running). k.pass.view.role ≡ Busy k.req) c.self.view_is i.runs.role in let h = c.in-Ok.ensures.held in let m : View = c.in-Ok.holding.pass.view in let j = c.in-Ok-hold.ensures.held in let n : View = c.in-Ok-hold.joining.pass.view in let second = subst (λ (q : Req). Extends m (Hold q c.args.target) (Busy q) n) h.0 j.5 in let mine = j.0 ∙ h.0 in let held = quiet_line v v m r (quiet_still v r busy) (Hold r c.args.source) (λ l. refl) h.4 in let both = quiet_line v m n r held (Hold r c.args.target) (λ l. refl) second in let w : View = c.in-Ok-answer.worker.view in let a = c.in-Ok-answer.ensures.replied in
     let x = subst (λ (q : Req). Extends n (Did (Reply q c.in-Ok-answer.cqe.res [])) (Leaving q) a.1) mine a.2 in
     let user = subst (λ (q : Req). (e : Entry) → IsPlaced (events_of n.seen) q e → c.in-Ok-answer.cqe.user_data ≡ e.user_data) mine c.in-Ok-answer.ensures.user_data in
     let on = subst (λ (k : Running). Extends k.pass.view (Hold k.req c.args.source) (Busy k.req) m → Extends m (Hold k.req c.args.target) (Busy k.req) n → (e : Entry) → IsPlaced (events_of k.pass.view.seen) k.req e → IsPlaced (events_of n.seen) k.req e) c.self.view_is
@@ -65,7 +65,7 @@ returns-in-Err-answer-clause-steps c = let v : View = c.args.self.pass.view in l
 
 -- there was no answer while it had both pipes
 pub returns-in-Err-answer-clause-ran : goal.returns-in-Err-answer-clause-ran
-returns-in-Err-answer-clause-ran c = let own = c.self.inside in let b = own.run.task in let p : Parcel = with_asked c.self.invariant.0 own.run.asked in let i = c.self.invariant.1.task in let table = b.words.now.table_id in let v : View = c.args.self.pass.view in let r : Req = c.args.self.req in let busy = subst (λ (k : Running). k.pass.view.role ≡ Busy k.req) c.self.view_is i.runs.role in let h = c.in-Ok.ensures.held in let m : View = c.in-Ok.holding.pass.view in let j = c.in-Ok-hold.ensures.held in let n : View = c.in-Ok-hold.joining.pass.view in let second = subst (λ (q : Req). Extends m (Hold q c.args.target) (Busy q) n) h.0 j.5 in let mine = j.0 ∙ h.0 in let held = quiet_line v v m r (quiet_still v r busy) (Hold r c.args.source) (λ l. refl) h.4 in let both = quiet_line v m n r held (Hold r c.args.target) (λ l. refl) second in let a = c.in-Err-answer.ensures.waits in let mid : View = a.2 in let o : View = c.in-Err-answer.busy.pass.view in let w : View = c.give_up-in-Err-answer.result.view in let k = c.in-Ok-hold.joining in
+returns-in-Err-answer-clause-ran c = let own = c.self.inside in let b = own.run.task in let p : Submission = with_asked c.self.invariant.0 own.run.asked in let i = c.self.invariant.1.task in let table = b.words.now.table_id in let v : View = c.args.self.pass.view in let r : Req = c.args.self.req in let busy = subst (λ (k : Running). k.pass.view.role ≡ Busy k.req) c.self.view_is i.runs.role in let h = c.in-Ok.ensures.held in let m : View = c.in-Ok.holding.pass.view in let j = c.in-Ok-hold.ensures.held in let n : View = c.in-Ok-hold.joining.pass.view in let second = subst (λ (q : Req). Extends m (Hold q c.args.target) (Busy q) n) h.0 j.5 in let mine = j.0 ∙ h.0 in let held = quiet_line v v m r (quiet_still v r busy) (Hold r c.args.source) (λ l. refl) h.4 in let both = quiet_line v m n r held (Hold r c.args.target) (λ l. refl) second in let a = c.in-Err-answer.ensures.waits in let mid : View = a.2 in let o : View = c.in-Err-answer.busy.pass.view in let w : View = c.give_up-in-Err-answer.result.view in let k = c.in-Ok-hold.joining in
     let first = subst (λ (q : Req). Extends n (Free q k.target a.3) (Busy q) mid) mine a.5 in let last = subst (λ (q : Req). Extends mid (Free q k.source a.4) (Busy q) o) mine a.6 in let x = subst (λ (q : Req). Extends o (Did (Park q)) Idle w) (a.0 ∙ mine) c.give_up-in-Err-answer.ensures.parked.1 in
     let bare = quiet_line v mid o r (quiet_line v n mid r both (Free r k.target a.3) (λ l. refl) first) (Free r k.source a.4) (λ l. refl) last in
     let on = subst (λ (k : Running). Extends k.pass.view (Hold k.req c.args.source) (Busy k.req) m → Extends m (Hold k.req c.args.target) (Busy k.req) n → (e : Entry) → IsPlaced (events_of k.pass.view.seen) k.req e → IsPlaced (events_of n.seen) k.req e) c.self.view_is

@@ -1,12 +1,12 @@
-use Rattle.work.proofs.Common.{Did, Full, Idle, IsParcel, Parcel, Park, Pass, Req, Running, Some, View, [], ap, request_at, slot_at, subst, sym}
+use Rattle.work.proofs.Common.{Did, Full, Idle, IsSubmission, Submission, Park, Pass, Req, Running, Some, View, [], ap, request_at, slot_at, subst, sym}
 use Rattle.work.proofs.MarksKept.{marked_after}
 use Rattle.work.proofs.PassesKept.{took_one}
 use Rattle.work.proofs.TaskKept.{in_front}
 use Rattle.work.proofs.busy.Busy.park.Goals as goal
 
-pub park-requires-clause-parcel : goal.park-requires-clause-parcel
-park-requires-clause-parcel c = let own = c.self.inside in let b = own.task in let p : Parcel = c.self.invariant.1 in let i = c.self.invariant.2 in
-    (p, in_front own.seat.me.1 (slot_at b.cell, Some (Full p)) _ i.out, subst (λ (q : Req). IsParcel own.seat.me.0.seen q [] p) (sym i.task.runs.req_is) i.task.runs.parcel)
+pub park-requires-clause-submission : goal.park-requires-clause-submission
+park-requires-clause-submission c = let own = c.self.inside in let b = own.task in let p : Submission = c.self.invariant.1 in let i = c.self.invariant.2 in
+    (p, in_front own.seat.me.1 (slot_at b.cell, Some (Full p)) _ i.out, subst (λ (q : Req). IsSubmission own.seat.me.0.seen q [] p) (sym i.task.runs.req_is) i.task.runs.submission)
 
 pub after-requires-clause-marked : goal.after-requires-clause-marked
 after-requires-clause-marked c = let own = c.self.inside in let b = own.task in let w : View = c.park.new.seat.me.0 in

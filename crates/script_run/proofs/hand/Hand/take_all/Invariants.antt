@@ -1,5 +1,0 @@
-use Rattle.script_run.proofs.Common.{Went}
-use Rattle.script_run.proofs.hand.Hand.take_all.Given as goal
-
-abbrev pub invariant-loop : goal.invariant-loop
-invariant-loop g l = Went l.fn.self l.self
