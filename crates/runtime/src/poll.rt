@@ -153,6 +153,11 @@ impl PollDesk {
         self.hands.kept.added()
     }
 
+    /// Whether a request waits that it has taken up.
+    pub(crate) fn has_waiting(&self) -> bool {
+        self.lists.waiting.len() > 0
+    }
+
     /// Whether its last turn did something.
     pub(crate) fn has_moved(&self) -> bool {
         self.hands.moved

@@ -27,7 +27,7 @@ fn serve_all<R: Wait>(
     let Some(worker) = workers.pop() else {
         return (workers, Turn::Idle);
     };
-    let (worker, turn) = worker.serve(context);
+    let (worker, turn) = worker.serve(context, false);
     let (mut workers, others) = serve_all(context, workers);
     workers.push_reserved(worker);
     (workers, both(turn, others))

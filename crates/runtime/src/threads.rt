@@ -1,5 +1,5 @@
 //! What the threads of a runtime do: that of the poller, and those of the workers.
-ghost use Rattle.std.specs.Prelude.{◌≡◌, ◌≢◌, ◌↔◌, ◌⊎◌, ◌+◌, ◌≤◌, ◌==◌, [], true, IfSome, IsTrue, length};
+ghost use Rattle.std.specs.Prelude.{◌≡◌, ◌≢◌, ◌↔◌, ◌⊎◌, ◌+◌, ◌≤◌, ◌==◌, [], true, false, IfSome, IsTrue, length};
 ghost use Rattle.bell.specs.BellPasses.{HasLoaded};
 ghost use Rattle.board.specs.ShapeLimits.{widest};
 ghost use Rattle.outbox.specs.Outbox.{Waiting};
@@ -37,6 +37,10 @@ const SETTLED: u32 = 2048;
 
 /// How many turns the worker of the poller's thread makes at most between two turns of the poller.
 const RUNS: u32 = 64;
+
+/// How many answers stay with the worker of the poller's thread, at most, while a request waits that may go on by them. Posted with
+/// that one's, they cost one lock, and the client comes once for all.
+const STAYING: usize = 15;
 
 /// Between a turn that did nothing and the next, after so many such turns in a row, of which so many are made at once. A turn is long
 /// enough that a pause of the processor after it would only let a request wait.
@@ -155,13 +159,18 @@ pub(crate) struct PollSide<C> {
 }
 
 impl WorkSide {
-    /// Work turns, until one finds nothing to do, `RUNS` of them at most. What they answered is posted. Whether the last was idle.
-    pub(crate) fn serve<R: Wait, G: Turnstile>(self, context: Context<'_, R, G>) -> (WorkSide, Turn)
+    /// Work turns, until one finds nothing to do, `RUNS` of them at most. Whether the last was idle. What they answered is posted; or, where
+    /// it may stay, and is little, it stays in the outbox until the next call, and the last turn counts as one that did something.
+    pub(crate) fn serve<R: Wait, G: Turnstile>(
+        self,
+        context: Context<'_, R, G>,
+        may_stay: bool,
+    ) -> (WorkSide, Turn)
         requires { IsWorkSide context.shared.now self }
         ensures own { IsWorkSide context.entry.shared.now result.0 }
         ensures share { result.0.desk.ready.share ≡ self.desk.ready.share }
         ensures idle { result.1 ≡ Turn.Idle → result.0.desk.kept ≡ [] }
-        ensures posted { result.0.outbox.answered ≡ [] }
+        ensures posted { (may_stay ≡ false) ⊎ (result.1 ≡ Turn.Idle) → result.0.outbox.answered ≡ [] }
     {
         let WorkSide {
             mut desk,
@@ -177,8 +186,13 @@ impl WorkSide {
                 break;
             }
         }
-        post_all(context, &mut outbox);
-        desk.report(&context.shared.counters);
+        let answers = outbox.len();
+        if may_stay && 0 < answers && answers < STAYING {
+            last = Turn::Moved;
+        } else {
+            post_all(context, &mut outbox);
+            desk.report(&context.shared.counters);
+        }
         let own = WorkSide {
             desk,
             worker,
@@ -200,13 +214,14 @@ impl WorkSide {
 fn serve_own<R: Wait, G: Turnstile>(
     context: Context<'_, R, G>,
     is_called: bool,
+    may_stay: bool,
     own: &mut Option<WorkSide>,
 ) -> Turn
     requires { MayOwn context.shared.now own.old }
     ensures own { MayOwn context.entry.shared.now own.new }
     ensures same { (own_in own.new ≡ own_in own.old) × (own_share own.new ≡ own_share own.old) }
     ensures idle { is_called ≡ true → result ≡ Turn.Idle → IfSome own.new (λ w. w.desk.kept ≡ []) }
-    ensures posted { is_called ≡ true → IfSome own.new (λ w. w.outbox.answered ≡ []) }
+    ensures posted { is_called ≡ true → (may_stay ≡ false) ⊎ (result ≡ Turn.Idle) → IfSome own.new (λ w. w.outbox.answered ≡ []) }
 {
     if !is_called {
         return Turn::Idle;
@@ -214,7 +229,7 @@ fn serve_own<R: Wait, G: Turnstile>(
     let Some(worker) = own.take() else {
         return Turn::Idle;
     };
-    let (worker, turn) = worker.serve(context);
+    let (worker, turn) = worker.serve(context, may_stay);
     *own = Some(worker);
     turn
 }
@@ -248,7 +263,8 @@ pub(crate) fn poll<R: Wait, G: Turnstile, C: Clock>(
         let puts = side.desk.puts();
         call_for(&mut side.caller, puts.wrapping_sub(called));
         let is_called = served == Turn::Moved || puts != called;
-        served = serve_own(context, is_called, &mut side.own);
+        let may_stay = puts != called && side.desk.has_waiting();
+        served = serve_own(context, is_called, may_stay, &mut side.own);
         called = puts;
         let has_moved = side.desk.has_moved() || served == Turn::Moved;
         still = if has_moved {
