@@ -38,8 +38,8 @@ const SETTLED: u32 = 2048;
 /// How many turns the worker of the poller's thread makes at most between two turns of the poller.
 const RUNS: u32 = 64;
 
-/// How many answers stay with the worker of the poller's thread, at most, while a request waits that may go on by them. Posted with
-/// that one's, they cost one lock, and the client comes once for all.
+/// From how many answers on none of them stay with the worker of the poller's thread, while a request waits that may go on by them.
+/// Fewer are posted with that one's: they cost one lock, and the client comes once for all.
 const STAYING: usize = 15;
 
 /// Between a turn that did nothing and the next, after so many such turns in a row, of which so many are made at once. A turn is long

@@ -1,7 +1,7 @@
 //! Runtimes on real threads: what their clients take, and what their reports tell.
 use crate::batches::Entry;
 use crate::pair::Pair;
-use controls::{Hold, Holds, Open, Point, Turnstile};
+use controls::{Hold, Holds, Open, Point};
 use entry::Sqe;
 use history::Req;
 use prep::{cancel, close, nop, read, timeout, write};
