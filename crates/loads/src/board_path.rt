@@ -101,14 +101,18 @@ impl BoardPath {
         })
     }
 
-    /// Submits a NOP, releases it, begins and runs it, and reaps its completion. Whether that is right.
-    fn serve(&mut self, number: u64) -> Result<bool, SubmitError> {
-        let Some(worker) = self.worker.take() else {
-            return Ok(false);
-        };
-        let req = submit_nop(self.alloc, &self.board, &mut self.submitter, number)?;
+    /// Releases the request, begins and runs it.
+    fn work(&mut self, req: Req) {
         self.board.release(&mut self.poller, req);
-        self.worker = Some(work(&self.board, worker, req));
+        if let Some(worker) = self.worker.take() {
+            self.worker = Some(work(&self.board, worker, req));
+        }
+    }
+
+    /// Submits a NOP, has it run, and reaps its completion. Whether that is right.
+    fn serve(&mut self, number: u64) -> Result<bool, SubmitError> {
+        let req = submit_nop(self.alloc, &self.board, &mut self.submitter, number)?;
+        self.work(req);
         match self.board.reap(&mut self.submitter, req) {
             Ok(completion) => Ok(completion.cqe.user_data == number && completion.cqe.res == 0),
             Err(_) => Ok(false),
@@ -125,15 +129,23 @@ impl BoardPath {
         }
         nanos_since(rt, start)
     }
+
+    /// As many NOPs as one cell serves, and one more, which must be refused as `Spent`. How many nanoseconds those took.
+    fn spend<R: Clock>(&mut self, rt: &R) -> Result<u64> {
+        let nanos = self.round(rt, GENERATIONS)?;
+        match submit_nop(self.alloc, &self.board, &mut self.submitter, 0) {
+            Err(SubmitError::Spent) => Ok(nanos),
+            _ => bail!("a cell that served all its requests takes one more"),
+        }
+    }
 }
 
-/// As many NOPs as one cell serves, and one more, which must be refused as `Spent`.
+/// Spends the cell of a board.
 pub(crate) fn run_spent<R: Machine>(rt: &R) -> Result<()> {
     let mut path = BoardPath::new(rt.alloc(), 1)?;
-    let millis = path.round(rt, GENERATIONS)? / 1_000_000;
-    if submit_nop(path.alloc, &path.board, &mut path.submitter, 0) != Err(SubmitError::Spent) {
-        bail!("a cell that served all its requests takes one more");
-    }
+    let spent = path.spend(rt);
+    drop(path);
+    let millis = spent? / 1_000_000;
     println!(rt;
         "{GENERATIONS} NOPs in one cell in {millis} ms; the next one is refused as Spent"
     )?;

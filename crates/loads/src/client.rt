@@ -2,15 +2,13 @@
 ghost use Rattle.std.specs.Prelude.{◌≡◌};
 
 use crate::load::{Counts, Fault, Load};
+use crate::machine::looked;
 use anyhow::{Result, bail};
 use board::{Completion, SubmitError};
 use runtime::Client;
 use std::sync::Wait;
 use std::thread;
 use std::time::{Clock, Duration};
-
-/// How often one looks for a completion in a row before other threads may run in between.
-const LOOKS: u32 = 256;
 
 /// A client and its load, how long it sleeps before each round, and what was submitted and taken.
 pub(crate) struct Driver<L: Load> {
@@ -61,6 +59,7 @@ impl<L: Load> Driver<L> {
                 return Ok(());
             } else {
                 let went = self.submit(rt);
+                // A look is long enough: after a pause of the processor a completion would only have waited.
                 looks = looked(looks);
                 went
             };
@@ -76,7 +75,7 @@ impl<L: Load> Driver<L> {
         ensures { self.new.client.board ≡ self.old.client.board }
     {
         let Ok((batch, awaited)) = self.load.next_batch() else {
-            return Err(Fault::Memory);
+            return Err(Fault("no memory was found", 0, 0));
         };
         if batch.is_empty() {
             return Ok(());
@@ -89,7 +88,7 @@ impl<L: Load> Driver<L> {
         match sent {
             Ok(_first) => self.load.sent()?,
             Err((SubmitError::Full, batch)) => return Ok(self.load.refused(batch)),
-            Err(_) => return Err(Fault::Refused),
+            Err(_) => return Err(Fault("a batch was refused that should fit", 0, 0)),
         }
         self.counts.submitted = self.counts.submitted.saturating_add(count);
         if awaited == 1 {
@@ -111,14 +110,4 @@ impl<L: Load> Driver<L> {
 /// Ends the load for this reason.
 fn refuse(fault: Fault) -> Result<()> {
     bail!("{fault}")
-}
-
-/// Counts one more look in vain. After `LOOKS` of them other threads may run in between. A look is long enough: after a pause of the
-/// processor a completion would only have waited.
-fn looked(looks: u32) -> u32 {
-    if looks < LOOKS {
-        return looks + 1;
-    }
-    thread::yield_now();
-    looks
 }

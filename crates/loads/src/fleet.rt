@@ -107,6 +107,20 @@ fn serve_both<R: Threads + Wait + Sync + Clock, L: Load + Send>(
     one_end
 }
 
+/// The clients at work one after the other, of which that of ring 1 only has READs that are left to wait.
+fn serve_each<R: Wait + Clock, L: Load>(
+    rt: &R,
+    zero: &mut Driver<L>,
+    one: &mut Driver<L>,
+    count: u64,
+) -> Result<()>
+    ensures zero { zero.new.client.board ≡ zero.old.client.board }
+    ensures one { one.new.client.board ≡ one.old.client.board }
+{
+    one.serve(rt, count)?;
+    zero.serve(rt, count)
+}
+
 /// Hands what the report says of each request to the load of its ring.
 fn note_report<L: Load>(first: &mut L, second: &mut L, report: &Report) -> Result<()> {
     for (completion, is_cut) in report.lines() {
@@ -206,11 +220,11 @@ pub(crate) fn round_of<R: Threads + Wait + Sync + Clock, L: Load + Send>(
     units: u64,
 ) -> Result<u64> {
     let start = Instant::now(rt)?;
-    if fleet.are_two {
-        serve_both(rt, &mut fleet.zero, &mut fleet.one, units)?;
+    let served = if fleet.are_two {
+        serve_both(rt, &mut fleet.zero, &mut fleet.one, units)
     } else {
-        fleet.one.serve(rt, units)?;
-        fleet.zero.serve(rt, units)?;
-    }
+        serve_each(rt, &mut fleet.zero, &mut fleet.one, units)
+    };
+    served?;
     nanos_since(rt, start)
 }

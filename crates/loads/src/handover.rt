@@ -1,16 +1,13 @@
 //! Hand-overs between two threads: a number goes to the other thread through a queue, and comes back through another. Each looks for the
 //! next number again and again, or blocks until it is woken.
-use crate::machine::nanos_since;
+use crate::machine::{looked, nanos_since};
 use anyhow::Result;
 use crossbeam_queue::ArrayQueue;
 use std::alloc::{AllocError, Global};
 use std::hint::spin_loop;
 use std::sync::Wait;
-use std::thread::{self, Parker, Threads, join};
+use std::thread::{Parker, Threads, join};
 use std::time::{Clock, Instant};
-
-/// How often one looks for a number in a row before other threads may run in between.
-const LOOKS: u32 = 256;
 
 /// The way of the numbers to one of the threads, which blocks there or not.
 #[derive(Drop)]
@@ -56,7 +53,8 @@ impl Lane {
             if self.is_blocking {
                 self.parker.park(rt);
             } else {
-                looks = waited(looks);
+                spin_loop();
+                looks = looked(looks);
             }
         }
         unreachable!()
@@ -100,14 +98,4 @@ impl HandOver {
         );
         nanos_since(rt, start)
     }
-}
-
-/// Waits a moment, after so many looks in vain, and counts one more.
-fn waited(looks: u32) -> u32 {
-    if looks < LOOKS {
-        spin_loop();
-        return looks + 1;
-    }
-    thread::yield_now();
-    looks
 }

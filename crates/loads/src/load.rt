@@ -28,46 +28,15 @@ impl Counts {
     }
 }
 
-/// Why a load ends early, by the number of a request and its reply. It is small: an error of `anyhow` has room for its text, which no
-/// request that is right should have to move.
+/// Why a load ends early, and the number of a request and its reply, or 0. It has no text of its own, which no request that is right
+/// should have to move.
 #[derive(Clone, Copy)]
-pub(crate) enum Fault {
-    /// No memory was found.
-    Memory,
-    /// A batch was refused that should fit.
-    Refused,
-    /// The request was submitted to a cell that is in use.
-    InUse(u64),
-    /// The request has a second completion, or was never submitted.
-    Twice(u64),
-    /// It can't have this reply, or this user_data.
-    Reply(u64, i32),
-    /// Its buffer is wrong.
-    Buffer(u64, i32),
-}
+pub(crate) struct Fault(pub &'static str, pub u64, pub i32);
 
 impl fmt::Display for Fault {
     fn fmt<W: fmt::Write>(&self, f: &mut fmt::Formatter<W>) -> fmt::Result {
-        match self {
-            Fault::Memory => f.write_str("no memory was found"),
-            Fault::Refused => f.write_str("a batch was refused that should fit"),
-            Fault::InUse(number) => write!(f, "request {number} has a cell that is in use"),
-            Fault::Twice(number) => {
-                write!(
-                    f,
-                    "request {number} has two completions, or was never submitted"
-                )
-            }
-            Fault::Reply(number, reply) => {
-                write!(f, "request {number} can't have the reply {reply}")
-            }
-            Fault::Buffer(number, reply) => {
-                write!(
-                    f,
-                    "the buffer of request {number}, with reply {reply}, is wrong"
-                )
-            }
-        }
+        let (why, number, reply) = (self.0, self.1, self.2);
+        write!(f, "{why}: request {number}, reply {reply}")
     }
 }
 

@@ -23,27 +23,23 @@ mod units;
 
 use anyhow::{Result, bail};
 use board_path::run_spent;
+use machine::Machine;
 use measure::{measure, run_idle};
 use mixed::{run_mixed, run_soak};
 use std::env;
+use std::time::CpuClock;
 
 /// The number that a word is.
-fn number_of(word: &Option<String>) -> Option<u64> {
-    match word {
-        Some(word) => word.as_str().parse::<u64>().ok(),
-        None => None,
-    }
+fn number_of(word: Option<&str>) -> Option<u64> {
+    word?.parse::<u64>().ok()
 }
 
-/// Does what the words of the command line ask for.
-fn main(rt: HostRuntime) -> Result<()> {
-    let (rt, mut words) = (&rt, env::args(&rt)?.skip(1));
-    let Some(word) = words.next() else {
-        return measure(rt, false, "");
-    };
-    let (next, last) = (words.next(), words.next());
-    match (word.as_str(), number_of(&next), number_of(&last)) {
-        ("--bench", None, None) => measure(rt, true, next.as_deref().unwrap_or("")),
+/// Does what these words ask for.
+fn carry_out<R: Machine + CpuClock>(rt: &R, words: [Option<&str>; 3]) -> Result<()> {
+    let [word, next, last] = words;
+    match (word.unwrap_or(""), number_of(next), number_of(last)) {
+        ("", None, None) => measure(rt, false, ""),
+        ("--bench", None, None) => measure(rt, true, next.unwrap_or("")),
         ("--idle", Some(seconds), Some(reads)) => run_idle(rt, seconds, reads),
         ("--spent", None, None) => run_spent(rt),
         ("--mixed", Some(seconds), None) => run_mixed(rt, seconds),
@@ -52,4 +48,13 @@ fn main(rt: HostRuntime) -> Result<()> {
             "usage: loads [--bench [NAME] | --idle SECONDS READS | --spent | --mixed SECONDS | --soak SECONDS SEED]"
         ),
     }
+}
+
+/// Does what the words of the command line ask for.
+fn main(rt: HostRuntime) -> Result<()> {
+    let mut words = env::args(&rt)?.skip(1);
+    let (word, next, last) = (words.next(), words.next(), words.next());
+    let done = carry_out(&rt, [word.as_deref(), next.as_deref(), last.as_deref()]);
+    drop((words, word, next, last));
+    done
 }

@@ -15,8 +15,11 @@ const ROUNDS: usize = 15;
 /// How many operations of a loop, or NOPs on a board, a round has.
 const OPERATIONS: u64 = 20_000;
 
-/// The hand-overs that others are compared with: how many are on their way, whether threads block, and how many a round has.
-const HAND_OVERS: [(&str, u64, bool, u64); 3] = [
+/// Hand-overs: how many are on their way, whether threads block, and how many a round has.
+type Passing = (&'static str, u64, bool, u64);
+
+/// Those that others are compared with.
+const HAND_OVERS: [Passing; 3] = [
     ("hand-over, 1 in flight", 1, false, 4_000),
     ("hand-over, 64 in flight", 64, false, 64_000),
     ("blocking hand-over, 1 in flight", 1, true, 500),
@@ -75,6 +78,45 @@ impl<'a> Bench<'a> {
         let (whole, part) = (unit / 100, unit % 100);
         println!(rt; "{name}: {whole}.{part:02} ns, {percent} % of a hand-over")?;
         Ok(unit)
+    }
+
+    /// The time of a round of so many hand-overs.
+    fn passed<R: Machine>(&self, rt: &R, lanes: &HandOver, units: u64) -> Result<u64> {
+        Ok(median!(self.is_timed, lanes.round(rt, units)))
+    }
+
+    /// The time of a hand-over of this kind.
+    fn measure_hand_over<R: Machine>(&self, rt: &R, kind: Passing) -> Result<u64> {
+        let (name, depth, is_blocking, units) = kind;
+        let plan = (self.units(units), self.others[0]);
+        let lanes = HandOver::new(rt.alloc(), depth, is_blocking)?;
+        let nanos = self.passed(rt, &lanes, plan.0);
+        drop(lanes);
+        self.show(rt, name, nanos?, plan)
+    }
+
+    /// The time of a turn of each loop.
+    fn measure_loops<R: Machine>(&self, rt: &R) -> Result<()> {
+        for (kind, name) in LOOPS {
+            let timed = Rounds::new(kind);
+            let nanos = median!(self.is_timed, timed.round(rt, OPERATIONS));
+            self.show(rt, name, nanos, (OPERATIONS, self.others[0]))?;
+        }
+        Ok(())
+    }
+
+    /// The time of a round of NOPs on a board.
+    fn served<R: Machine>(&self, rt: &R, path: &mut BoardPath) -> Result<u64> {
+        Ok(median!(self.is_timed, path.round(rt, OPERATIONS)))
+    }
+
+    /// The time of a NOP on a board.
+    fn measure_path<R: Machine>(&self, rt: &R) -> Result<()> {
+        let mut path = BoardPath::new(rt.alloc(), 64)?;
+        let nanos = self.served(rt, &mut path);
+        drop(path);
+        self.show(rt, "NOP on a board", nanos?, (OPERATIONS, self.others[0]))?;
+        Ok(())
     }
 
     /// The time of a round of so many units.
@@ -138,21 +180,10 @@ pub(crate) fn measure<R: Machine>(rt: &R, is_timed: bool, only: &str) -> Result<
         others,
     };
     for i in 0..3usize {
-        let (name, depth, is_blocking, units) = HAND_OVERS[i];
-        let lanes = HandOver::new(rt.alloc(), depth, is_blocking)?;
-        let plan = (bench.units(units), bench.others[0]);
-        let nanos = median!(is_timed, lanes.round(rt, plan.0));
-        bench.others[i] = bench.show(rt, name, nanos, plan)?;
+        bench.others[i] = bench.measure_hand_over(rt, HAND_OVERS[i])?;
     }
-    let plan = (OPERATIONS, bench.others[0]);
-    for (kind, name) in LOOPS {
-        let timed = Rounds::new(kind);
-        let nanos = median!(is_timed, timed.round(rt, OPERATIONS));
-        bench.show(rt, name, nanos, plan)?;
-    }
-    let mut path = BoardPath::new(rt.alloc(), 64)?;
-    let nanos = median!(is_timed, path.round(rt, OPERATIONS));
-    bench.show(rt, "NOP on a board", nanos, plan)?;
+    bench.measure_loops(rt)?;
+    bench.measure_path(rt)?;
     bench.measure_all(rt)
 }
 

@@ -105,14 +105,18 @@ impl Mix {
         let (number, cqe) = (completion.req.k, completion.cqe);
         let record = self.place(number).and_then(|place| place.take());
         let Some(record) = record.filter(|record| record.number == number) else {
-            return Err(Fault::Twice(number));
+            return Err(Fault(
+                "it was never submitted, or has two completions",
+                number,
+                cqe.res,
+            ));
         };
         let (op, res, buffer) = (record.sqe.op(), cqe.res, completion.buffer.as_slice());
         if cqe.user_data != record.sqe.user_data() || !may_reply(op, res, is_cut) {
-            return Err(Fault::Reply(number, res));
+            return Err(Fault("it can't have this reply", number, res));
         }
         if !self.flow.is_right(op, record.from, res, buffer) {
-            return Err(Fault::Buffer(number, res));
+            return Err(Fault("its buffer is wrong", number, res));
         }
         self.flow.finish(op, res);
         Ok(())
@@ -176,7 +180,7 @@ impl Load for Mix {
         for record in mem::replace(&mut self.drawn, Vec::new(self.alloc)) {
             match self.place(record.number) {
                 Some(slot) if slot.is_none() => *slot = Some(record),
-                _ => return Err(Fault::InUse(record.number)),
+                _ => return Err(Fault("its cell is in use", record.number, 0)),
             }
             self.submitted = self.submitted.saturating_add(1);
         }

@@ -165,10 +165,10 @@ impl Load for Units {
             _ => 0,
         };
         if cqe.res != res || cqe.user_data == LEFT {
-            return Err(Fault::Reply(number, cqe.res));
+            return Err(Fault("it can't have this reply", number, cqe.res));
         }
         if 0 < res && !are_bytes(&completion.buffer, cqe.user_data / 2) {
-            return Err(Fault::Buffer(number, res));
+            return Err(Fault("its buffer is wrong", number, res));
         }
         self.open = self.open.saturating_sub(1);
         Ok(())
