@@ -7,8 +7,8 @@ use std::sync::Wait;
 use std::thread::{self, Threads};
 use std::time::{Clock, Instant};
 
-/// How often one looks in a row before other threads may run in between.
-const LOOKS: u32 = 256;
+/// How often one looks in a row before other threads may run in between: for some tens of microseconds.
+const LOOKS: u32 = 4_096;
 
 /// Threads, waiting, a clock, memory, words, files and output.
 pub(crate) trait Machine: Threads

@@ -1,5 +1,7 @@
 -- Lists of timers: what a timer more and a request less make of the deadlines and of their order.
-use Rattle.wheel.proofs.Common.{AllFrom, Bool, Global, InOrder, IsFirstDue, IsOnce, List, None, Option, Req, Some, Timer, Vec, [], ap, arith, armed, bool_cases, cases_lt, cond, deadline_in, dropped, false, get_or, insert, le-leb, leb-true, length, nat_le, none-some, not_true, refl, remove, same, same_false, same_itself, same_true, slice_get, slice_get-get_or, subst, suc, sym, true, true≢false, vec_len, with_timer, without, zero, ℕ, ⊎_elim, ◌<◌, ◌∙◌, ◌∷◌, ◌≡◌, ◌≤◌}
+use Rattle.std.specs.VecDeque.{deque_len}
+use Rattle.std.specs.declared.collections.VecDeque.{VecDeque}
+use Rattle.wheel.proofs.Common.{AllFrom, Bool, Global, InOrder, IsFirstDue, IsOnce, List, None, Option, Req, Some, Timer, [], ap, arith, armed, bool_cases, cases_lt, cond, deadline_in, dropped, false, get_or, insert, le-leb, leb-true, length, nat_le, none-some, not_true, refl, remove, same, same_false, same_itself, same_true, slice_get, slice_get-get_or, subst, suc, sym, true, true≢false, with_timer, without, zero, ℕ, ⊎_elim, ◌<◌, ◌∙◌, ◌∷◌, ◌≡◌, ◌≤◌}
 
 -- two names of one request
 same_as : (a b q : Req) → same a b ≡ true → same a q ≡ same b q
@@ -197,6 +199,6 @@ arms x ts = λ i q. at q i where
 pub drops : (r : Req) (ts : List Timer) → deadline_in (without r ts) ≡ dropped (deadline_in ts) r
 drops r ts = λ i q. deadline_without r ts q i
 
--- the length of a vector of timers
-pub vec_len-length : (v : Vec Timer Global) → vec_len v ≡ length v.items
-vec_len-length v = λ i. v.ok.0 i
+-- the length of a deque of timers
+pub deque_len-length : (v : VecDeque Timer Global) → deque_len v ≡ length v.items
+deque_len-length v = λ i. v.ok.0 i

@@ -1,5 +1,6 @@
 //! Timers in the order of their deadlines.
-ghost use Rattle.std.specs.Prelude.{◌≡◌, ◌<◌, ◌≤◌, ℕ, ◌∷◌, [], true, false, length, vec_len, vec_capacity, IsTrue, IsSome, OnOk, OnErr, ◌↔◌, MatchOption, None, Some, slice_get};
+ghost use Rattle.std.specs.Prelude.{◌≡◌, ◌<◌, ◌≤◌, ℕ, ◌∷◌, [], true, false, length, IsTrue, IsSome, OnOk, OnErr, ◌↔◌, MatchOption, None, Some, slice_get};
+ghost use Rattle.std.specs.VecDeque.{deque_len, deque_capacity};
 ghost use Rattle.history.specs.History.{same};
 ghost use Rattle.wheel.specs.declared.sorted.Timer.{Timer};
 ghost use Rattle.wheel.specs.{armed, dropped, IsOnce, InOrder, deadline_in, with_timer, without};
@@ -8,6 +9,7 @@ use crate::error::Memory;
 use crate::set::TimerSet;
 use history::Req;
 use std::alloc::Global;
+use std::collections::VecDeque;
 use std::marker::Model;
 
 /// A request with its deadline.
@@ -17,10 +19,11 @@ pub struct Timer {
     pub at: u32,
 }
 
-/// Timers in the order of their deadlines: a list, with one timer of a request at most. Contracts see it.
+/// Timers in the order of their deadlines: a list, with one timer of a request at most. Contracts see it. It is a deque, so that the
+/// first timer leaves without moving the others.
 #[derive(Drop)]
 pub struct SortedTimers {
-    timers: Vec<Timer>,
+    timers: VecDeque<Timer>,
 }
 
 impl Model for SortedTimers {
@@ -41,7 +44,7 @@ impl SortedTimers {
         ensures { result ≡ [] }
     {
         SortedTimers {
-            timers: Vec::new(alloc),
+            timers: VecDeque::new(alloc),
         }
     }
 
@@ -50,7 +53,7 @@ impl SortedTimers {
         ensures first { MatchOption result (self.now ≡ []) (λ t. slice_get self.now 0 ≡ Some t) }
         ensures sorted { InOrder self.now }
     {
-        self.timers.first().copied()
+        self.timers.front().copied()
     }
 
     /// Arms a timer of a request that has none. Want of memory changes nothing.
@@ -84,11 +87,11 @@ fn is_of(timer: &Timer, req: Req) -> bool
 }
 
 /// The place of a request's timer, from a place on; the length where it has none there.
-fn find(timers: &[Timer], req: Req, from: usize) -> usize
-    requires from { from ≤ length timers.now }
-    ensures within { result ≤ length timers.now }
-    ensures before { (k : ℕ) (t : Timer) → from ≤ k → k < result → slice_get timers.now k ≡ Some t → same t.req req ≡ false }
-    ensures there { (t : Timer) → slice_get timers.now result ≡ Some t → same t.req req ≡ true }
+fn find(timers: &VecDeque<Timer>, req: Req, from: usize) -> usize
+    requires from { from ≤ length timers.now.items }
+    ensures within { result ≤ length timers.now.items }
+    ensures before { (k : ℕ) (t : Timer) → from ≤ k → k < result → slice_get timers.now.items k ≡ Some t → same t.req req ≡ false }
+    ensures there { (t : Timer) → slice_get timers.now.items result ≡ Some t → same t.req req ≡ true }
 {
     let mut k = from;
     while k < timers.len() && !is_of(&timers[k], req) {
@@ -98,28 +101,27 @@ fn find(timers: &[Timer], req: Req, from: usize) -> usize
 }
 
 /// Takes the timer of a request out, if it has one. It has none before the place `from`.
-fn take_out(timers: &mut Vec<Timer>, req: Req, from: usize) -> bool
+fn take_out(timers: &mut VecDeque<Timer>, req: Req, from: usize) -> bool
     requires once { IsOnce timers.old.items }
-    requires from { from ≤ vec_len timers.old }
+    requires from { from ≤ deque_len timers.old }
     requires before { (k : ℕ) (t : Timer) → k < from → slice_get timers.old.items k ≡ Some t → same t.req req ≡ false }
     ensures items { timers.new.items ≡ without req timers.old.items }
     ensures there { IsTrue result ↔ IsSome (deadline_in timers.old.items req) }
-    ensures bound { vec_len timers.new ≤ vec_len timers.old }
-    ensures capacity { vec_capacity timers.new ≡ vec_capacity timers.old }
+    ensures bound { deque_len timers.new ≤ deque_len timers.old }
+    ensures capacity { deque_capacity timers.new ≡ deque_capacity timers.old }
 {
     let k = find(timers, req, from);
-    if k >= timers.len() {
-        return false;
+    match timers.remove(k) {
+        None => false,
+        Some(_) => true,
     }
-    let _ = timers.remove(k);
-    true
 }
 
 /// A place before which all deadlines are below this one, found by halving.
-fn first_from(timers: &[Timer], at: u32) -> usize
-    requires { InOrder timers.now }
-    ensures within { result ≤ length timers.now }
-    ensures before { (k : ℕ) (t : Timer) → k < result → slice_get timers.now k ≡ Some t → t.at < at }
+fn first_from(timers: &VecDeque<Timer>, at: u32) -> usize
+    requires { InOrder timers.now.items }
+    ensures within { result ≤ length timers.now.items }
+    ensures before { (k : ℕ) (t : Timer) → k < result → slice_get timers.now.items k ≡ Some t → t.at < at }
 {
     let mut low = 0;
     let mut high = timers.len();
@@ -135,11 +137,11 @@ fn first_from(timers: &[Timer], at: u32) -> usize
 }
 
 /// The place after all timers with no later deadline. It is sought from the back, since a new deadline is mostly the latest.
-fn place(timers: &[Timer], at: u32) -> usize
-    requires { InOrder timers.now }
-    ensures within { result ≤ length timers.now }
-    ensures before { (k : ℕ) (t : Timer) → k < result → slice_get timers.now k ≡ Some t → t.at ≤ at }
-    ensures after { (t : Timer) → slice_get timers.now result ≡ Some t → at < t.at }
+fn place(timers: &VecDeque<Timer>, at: u32) -> usize
+    requires { InOrder timers.now.items }
+    ensures within { result ≤ length timers.now.items }
+    ensures before { (k : ℕ) (t : Timer) → k < result → slice_get timers.now.items k ≡ Some t → t.at ≤ at }
+    ensures after { (t : Timer) → slice_get timers.now.items result ≡ Some t → at < t.at }
 {
     let mut k = timers.len();
     while k > 0 && at < timers[k - 1].at {
@@ -149,13 +151,15 @@ fn place(timers: &[Timer], at: u32) -> usize
 }
 
 /// Puts a timer in its place. There is room for it.
-fn put(timers: &mut Vec<Timer>, timer: Timer)
+fn put(timers: &mut VecDeque<Timer>, timer: Timer)
     requires sorted { InOrder timers.old.items }
-    requires room { vec_len timers.old < vec_capacity timers.old }
+    requires room { deque_len timers.old < deque_capacity timers.old }
     ensures { timers.new.items ≡ with_timer timer timers.old.items }
 {
     let k = place(timers, timer.at);
-    let _ = timers.insert(k, timer);
+    let Ok(()) = timers.insert(k, timer) else {
+        unreachable!()
+    };
 }
 
 impl TimerSet for SortedTimers {

@@ -1,4 +1,4 @@
-use Rattle.wheel.proofs.Common.{InOrder, IsOnce, Some, ap, arith, bool_cases, deadline_in, dropped, false, same, slice_get, subst, sym, true, ⊎_elim, ◌<◌, ◌∙◌, ◌≡◌}
+use Rattle.wheel.proofs.Common.{InOrder, IsOnce, Some, ap, arith, bool_cases, deadline_in, dropped, false, same, subst, sym, true, ⊎_elim, ◌<◌, ◌∙◌, ◌≡◌}
 use Rattle.wheel.proofs.Sorting.{drops, its_deadline, once_without, order_without}
 use Rattle.wheel.proofs.sorted.SortedTimers.drop_at.Goals as goal
 
@@ -8,7 +8,7 @@ take_out-was_there-requires-clause-before c = λ k t lt u.
     ⊎_elim (λ (w : same t.req c.args.timer.req ≡ true). absurd (
     let e : Some t.at ≡ Some c.args.timer.at = sym (its_deadline ts c.self.invariant.1 k t u c.args.timer.req w) ∙ ap (λ z. deadline_in z c.args.timer.req) c.self.view_is ∙ c.requires in
     let same_at : t.at ≡ c.args.timer.at = cc in
-    let below : t.at < c.args.timer.at = c.first_from-from.ensures.before k t lt (subst (λ z. slice_get z k ≡ Some t) (sym c.deref.ensures.value) u) in omega arith))
+    let below : t.at < c.args.timer.at = c.first_from-from.ensures.before k t lt u in omega arith))
     (λ (w : same t.req c.args.timer.req ≡ false). w) (bool_cases (same t.req c.args.timer.req))
 
 pub invariant_of-self : goal.invariant_of-self
