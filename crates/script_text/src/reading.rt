@@ -2,7 +2,7 @@
 ghost use Rattle.std.specs.Prelude.{◌≡◌, ◌≤◌, [], length, reverse, IfOk, IfErr, OnOk, All};
 ghost use Rattle.script_text.specs.{all_stated, IsFaultOf, Outlines, faults_here, IsEven, Stands, Takes, HasNoFault, IsFaultless, IsScriptOf, IsToldHere, IsToldOf, IsToldOfText, SaysScript, stated_in, first_of, sentence, sentences, IsPlain, text_lines};
 
-use crate::fault::{Fault, ScriptFault};
+use crate::fault::ScriptFault;
 use crate::line::{Line, read_lines};
 use crate::line_faults::first_fault;
 use crate::outline::Outline;
@@ -40,13 +40,10 @@ fn script_of(alloc: Global, lines: &[Line<'_>]) -> Result<Script, ScriptFault>
 {
     let outline = Outline::of(alloc, lines)?;
     let parts = parts_of(alloc, &outline, lines)?;
-    match parts.script(alloc)? {
-        Some(script) => Ok(script),
-        None => Err(ScriptFault::Line {
-            line: 1,
-            fault: Fault::OutOfPlace,
-        }),
-    }
+    let Some(script) = parts.script(alloc)? else {
+        unreachable!()
+    };
+    Ok(script)
 }
 
 /// The parts of the script that lines write.
