@@ -102,7 +102,7 @@ impl BoardPath {
     }
 
     /// Releases the request, begins and runs it.
-    fn work(&mut self, req: Req) {
+    fn run(&mut self, req: Req) {
         self.board.release(&mut self.poller, req);
         if let Some(worker) = self.worker.take() {
             self.worker = Some(work(&self.board, worker, req));
@@ -112,7 +112,7 @@ impl BoardPath {
     /// Submits a NOP, has it run, and reaps its completion. Whether that is right.
     fn serve(&mut self, number: u64) -> Result<bool, SubmitError> {
         let req = submit_nop(self.alloc, &self.board, &mut self.submitter, number)?;
-        self.work(req);
+        self.run(req);
         match self.board.reap(&mut self.submitter, req) {
             Ok(completion) => Ok(completion.cqe.user_data == number && completion.cqe.res == 0),
             Err(_) => Ok(false),

@@ -28,8 +28,8 @@ impl Counts {
     }
 }
 
-/// Why a load ends early, and the number of a request and its reply, or 0. It has no text of its own, which no request that is right
-/// should have to move.
+/// Why a load ends early, and the number of a request and its reply, or 0. It owns no text, which no request that is right should
+/// have to move.
 #[derive(Clone, Copy)]
 pub(crate) struct Fault(pub &'static str, pub u64, pub i32);
 

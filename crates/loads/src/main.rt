@@ -37,8 +37,10 @@ fn number_of(word: Option<&str>) -> Option<u64> {
 /// Does what these words ask for.
 fn carry_out<R: Machine + CpuClock>(rt: &R, words: [Option<&str>; 3]) -> Result<()> {
     let [word, next, last] = words;
-    match (word.unwrap_or(""), number_of(next), number_of(last)) {
-        ("", None, None) => measure(rt, false, ""),
+    let Some(word) = word else {
+        return measure(rt, false, "");
+    };
+    match (word, number_of(next), number_of(last)) {
         ("--bench", None, None) => measure(rt, true, next.unwrap_or("")),
         ("--idle", Some(seconds), Some(reads)) => run_idle(rt, seconds, reads),
         ("--spent", None, None) => run_spent(rt),
