@@ -88,16 +88,21 @@ fn join<R: Machine>(rt: &R, runtime: Runtime<Ticking>, clients: Vec<Client>) -> 
     }
 }
 
-/// Both clients at work, each in a thread.
-fn serve_both<R: Threads + Wait + Sync + Clock, L: Load + Send>(
+/// Both clients at work, each in a thread; or one after the other, where that of ring 1 has only READs that are left to wait.
+fn serve_all<R: Threads + Wait + Sync + Clock, L: Load + Send>(
     rt: &R,
     zero: &mut Driver<L>,
     one: &mut Driver<L>,
     count: u64,
+    are_two: bool,
 ) -> Result<()>
     ensures zero { zero.new.client.board ≡ zero.old.client.board }
     ensures one { one.new.client.board ≡ one.old.client.board }
 {
+    if !are_two {
+        one.serve(rt, count)?;
+        return zero.serve(rt, count);
+    }
     let (zero_end, one_end) = join_mut(
         rt,
         &mut || zero.serve(rt, count),
@@ -105,20 +110,6 @@ fn serve_both<R: Threads + Wait + Sync + Clock, L: Load + Send>(
     );
     zero_end?;
     one_end
-}
-
-/// The clients at work one after the other, of which that of ring 1 only has READs that are left to wait.
-fn serve_each<R: Wait + Clock, L: Load>(
-    rt: &R,
-    zero: &mut Driver<L>,
-    one: &mut Driver<L>,
-    count: u64,
-) -> Result<()>
-    ensures zero { zero.new.client.board ≡ zero.old.client.board }
-    ensures one { one.new.client.board ≡ one.old.client.board }
-{
-    one.serve(rt, count)?;
-    zero.serve(rt, count)
 }
 
 /// Hands what the report says of each request to the load of its ring.
@@ -220,11 +211,7 @@ pub(crate) fn round_of<R: Threads + Wait + Sync + Clock, L: Load + Send>(
     units: u64,
 ) -> Result<u64> {
     let start = Instant::now(rt)?;
-    let served = if fleet.are_two {
-        serve_both(rt, &mut fleet.zero, &mut fleet.one, units)
-    } else {
-        serve_each(rt, &mut fleet.zero, &mut fleet.one, units)
-    };
-    served?;
+    let are_two = fleet.are_two;
+    serve_all(rt, &mut fleet.zero, &mut fleet.one, units, are_two)?;
     nanos_since(rt, start)
 }
