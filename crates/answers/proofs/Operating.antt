@@ -2,18 +2,18 @@
 -- pipe of the history.
 use Rattle.std.proofs.lemmas.List.{length-take-le}
 use Rattle.entry.specs.declared.op.Offset.{Offset}
-use Rattle.entry.specs.declared.op.Op.TheVariants.{Close as OpClose, Read as OpRead, Write as OpWrite, PollAdd as OpPoll, Splice as OpSplice}
+use Rattle.entry.specs.declared.op.Op.TheVariants.{Read as OpRead, Write as OpWrite, Splice as OpSplice}
 use Rattle.level.specs.declared.ends.End.TheVariants.{Read as ReadSide, Write as WriteSide}
-use Rattle.level.specs.Replies.{close_reply, moved, not_open, poll_reply, read_reply, write_reply}
+use Rattle.level.specs.Replies.{moved, read_reply, write_reply}
 use Rattle.level.proofs.Moved.{read_few}
 use Rattle.history.specs.Answers as told
 use Rattle.history.specs.State.{Held, held_in}
-use Rattle.history.proofs.Contents.{reads_held, writes_held, closes_held, flows_held, flows_hold}
-use Rattle.pipe.specs.{level_of, OnIdle, after_read, after_write, after_close}
-use Rattle.answers.proofs.Common.{Answer, Bool, Conduit, Does, End, Event, Flow, IsPipe, IsSide, IsSound, List, None, Op, OpAnswers, Option, Req, Some, [], ap, append-nil, bare, close_of, cond, contents, drop, end_of, eq-eqb, eqb-true, false, flow, flows, is_at, is_pipe, later, length, level_at, lt-ltb, negsuc, no_end, now, offered, poll_of, pos, read_end, read_from, refl, size, slice_index, subst, sym, take, true, with_front, write_end, write_to, ℕ, ℤ, ◌++◌, ◌<◌, ◌==◌, ◌∙◌, ◌≡◌, ◌≤◌}
+use Rattle.history.proofs.Contents.{reads_held, writes_held, flows_held, flows_hold}
+use Rattle.pipe.specs.{level_of, OnIdle, after_read, after_write}
+use Rattle.answers.proofs.Common.{Answer, Conduit, Does, End, Event, Flow, IsPipe, IsSide, IsSound, List, None, Op, OpAnswers, Option, Req, Some, [], ap, append-nil, bare, cond, contents, drop, end_of, eq-eqb, eqb-true, false, flow, flows, is_at, is_pipe, later, length, level_at, lt-ltb, negsuc, no_end, now, offered, read_end, read_from, refl, size, slice_index, subst, sym, take, true, with_front, write_end, write_to, ℕ, ℤ, ◌++◌, ◌<◌, ◌==◌, ◌∙◌, ◌≡◌, ◌≤◌}
 
 abbrev pub held_of : Conduit → Held
-held_of c = record { bytes = c.content; read_shut = c.read_shut; write_shut = c.write_shut }
+held_of c = record { bytes = c.content; read_closed = c.read_closed; write_closed = c.write_closed }
 
 pub same : (p : ℕ) → (p == p) ≡ true
 same p = eq-eqb p p refl
@@ -27,7 +27,7 @@ pub stays : (cap : ℕ) (op : Op) (bytes : List ℕ) (res : ℤ) (p : ℕ) (c ne
 stays cap op bytes res p c new w s ok k e =
     let was : held_of c ≡ held_in w = cc in
     let all : held_of new ≡ held_in (flows op bytes res p w) = e ∙ ap (flows_held op bytes res p) was ∙ sym (flows_hold op bytes res p w ok) in
-    record { cap_is = k ∙ s.cap_is; content_is = ap (λ (v : Held). v.bytes) all; read_is = ap (λ (v : Held). v.read_shut) all; write_is = ap (λ (v : Held). v.write_shut) all }
+    record { cap_is = k ∙ s.cap_is; content_is = ap (λ (v : Held). v.bytes) all; read_is = ap (λ (v : Held). v.read_closed) all; write_is = ap (λ (v : Held). v.write_closed) all }
 
 -- an error moves nothing
 reads_nothing : (x : End) (n p : ℕ) (v : Held) → reads_held x (negsuc n) p v ≡ v

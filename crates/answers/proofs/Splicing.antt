@@ -47,12 +47,12 @@ module _ (caps : List ℕ) (f : ℕ → Flow) (s t : ℕ) (c d : Conduit) (s_the
   ends_open : splice_of caps f (read_end s) (write_end t) len ≡ cond (gives (read_end s) c && takes (write_end t) d) between bad_end
   ends_open =
       let s_in : is_pipe caps s ≡ true = lt-ltb s (length caps) s_there in let t_in : is_pipe caps t ≡ true = lt-ltb t (length caps) t_there in
-      (λ i. cond (s_in i && not ((sym source.read_is) i)) (cond (t_in i && not ((sym target.write_is) i)) between bad_end) bad_end) ∙ and_first (not c.read_shut) (not d.write_shut) between bad_end
+      (λ i. cond (s_in i && not ((sym source.read_is) i)) (cond (t_in i && not ((sym target.write_is) i)) between bad_end) bad_end) ∙ and_first (not c.read_closed) (not d.write_closed) between bad_end
 
   pub ends_said : (x z : End) → is_at x s ≡ true → is_at z t ≡ true → splice_of caps f x z len ≡ cond (gives x c && takes z d) between bad_end
   ends_said x z a b = ⊎_elim
       (λ (e : x ≡ read_end s). ⊎_elim
-      (λ (k : z ≡ read_end t). rw (e, k) (sym (and_none (not c.read_shut) between bad_end)))
+      (λ (k : z ≡ read_end t). rw (e, k) (sym (and_none (not c.read_closed) between bad_end)))
       (λ (k : z ≡ write_end t). rw (e, k) ends_open)
       (at_end z t b))
       (λ (e : x ≡ write_end s). rw e refl) (at_end x s a)
@@ -159,9 +159,9 @@ module _ (caps : List ℕ) (h : List Event) (r : Req) (p : ℕ) (fd_in fd_out : 
   off_board : (a b : ℕ) → (a == b) ≡ false → ((a == p) || (b == p)) ≡ true → ((q : ℕ) → q < length caps → q ≢ p → ((a == q) || (b == q)) ≡ false) → splice_of caps (flow h) (read_end a) (write_end b) len ≡ bad_end
   off_board a b ne used off = ⊎_elim
       (λ (l : (a == p) ≡ true). (let none' = not_there caps b (λ lt. true≢false (sym (or_right (a == b) (b == b) (same b)) ∙ off b lt (λ e. apart (eqb-true a p l ∙ sym e)))) in
-      ap (λ (i : Bool). cond (is_pipe caps a && not (flow h a).read_shut) (cond (i && not (flow h b).write_shut) (cond (a == b) (now (negsuc 21) []) (bare (splice_reply (level_at caps (flow h) a) (level_at caps (flow h) b) len))) bad_end) bad_end) none' ∙ either (is_pipe caps a && not (flow h a).read_shut) bad_end))
+      ap (λ (i : Bool). cond (is_pipe caps a && not (flow h a).read_closed) (cond (i && not (flow h b).write_closed) (cond (a == b) (now (negsuc 21) []) (bare (splice_reply (level_at caps (flow h) a) (level_at caps (flow h) b) len))) bad_end) bad_end) none' ∙ either (is_pipe caps a && not (flow h a).read_closed) bad_end))
       (λ (l : (b == p) ≡ true). (let none' = not_there caps a (λ lt. true≢false (sym (ap (λ (i : Bool). i || (b == a)) (same a)) ∙ off a lt (λ e. apart (e ∙ sym (eqb-true b p l))))) in
-      ap (λ (i : Bool). cond (i && not (flow h a).read_shut) (splice_into caps (flow h) a b len) bad_end) none'))
+      ap (λ (i : Bool). cond (i && not (flow h a).read_closed) (splice_into caps (flow h) a b len) bad_end) none'))
       (or_cases (a == p) (b == p) used) where
         apart : a ≡ b → ⊥
         apart e = true≢false (sym (eq-eqb a b e) ∙ ne)

@@ -12,8 +12,8 @@ use Rattle.answers.specs.NamedEnds.{UsesOne, UsesBoth}
 pub record IsPipe (cap : ℕ) (c : Conduit) (w : Flow) : Type 0 where
   pub cap_is : c.cap ≡ cap
   pub content_is : c.content ≡ content w
-  pub read_is : c.read_shut ≡ w.read_shut
-  pub write_is : c.write_shut ≡ w.write_shut
+  pub read_is : c.read_closed ≡ w.read_closed
+  pub write_is : c.write_closed ≡ w.write_closed
 
 -- no more came out than went in, as in every legal history
 abbrev pub IsSound : Flow → Type 0

@@ -68,10 +68,10 @@ IsSide side x = ⊥
 
 -- bytes come out of this end of the pipe: the open read end
 abbrev pub gives : End → Conduit → Bool
-gives (read_end p) c = not c.read_shut
+gives (read_end p) c = not c.read_closed
 gives _ c = false
 
 -- bytes go in at this end of the pipe: the open write end
 abbrev pub takes : End → Conduit → Bool
-takes (write_end p) c = not c.write_shut
+takes (write_end p) c = not c.write_closed
 takes _ c = false

@@ -63,12 +63,12 @@ pub(crate) fn splice_alone(fd_in: i32, fd_out: i32, pipe: &Pipe, buffer: &[u8]) 
 fn gives(fd: i32, pipe: &Pipe) -> bool
     ensures { result ≡ gives (end_of fd) pipe.now }
 {
-    fd >= 0 && fd % 2 == 0 && !pipe.is_shut(End::Read)
+    fd >= 0 && fd % 2 == 0 && !pipe.is_closed(End::Read)
 }
 
 /// Bytes go into the pipe at the end `fd`: it is the write end, and open.
 fn takes(fd: i32, pipe: &Pipe) -> bool
     ensures { result ≡ takes (end_of fd) pipe.now }
 {
-    fd >= 0 && fd % 2 != 0 && !pipe.is_shut(End::Write)
+    fd >= 0 && fd % 2 != 0 && !pipe.is_closed(End::Write)
 }

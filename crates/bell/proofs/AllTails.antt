@@ -1,6 +1,6 @@
 -- All tails read one after the other.
 use Rattle.bell.specs.declared.view.Load.{Load}
-use Rattle.bell.proofs.Common.{Bool, HasRead, HasReadOne, HaveRisen, List, View, ap, arith, cond, dite, eq-eqb, eqb-true, false, get_or-set_other, get_or-set_same, length, length-set, loads_of, refl, slice_index, slice_set, subst, suc, sym, true, true≢false, zero, ℕ, ℕ_discrete, ◌++◌, ◌+◌, ◌<◌, ◌==◌, ◌∙◌, ◌∷◌, ◌≡◌, ◌≢◌, ◌≤◌}
+use Rattle.bell.proofs.Common.{Bool, HasRead, HasReadOne, List, View, ap, arith, cond, dite, eq-eqb, eqb-true, false, get_or-set_other, get_or-set_same, length, length-set, loads_of, refl, slice_index, slice_set, subst, suc, sym, true, true≢false, zero, ℕ, ℕ_discrete, ◌++◌, ◌+◌, ◌<◌, ◌==◌, ◌∙◌, ◌∷◌, ◌≡◌, ◌≢◌, ◌≤◌}
 
 -- the first k tails were read
 pub record IsReading (v0 : View) (old : List ℕ) (k : ℕ) (v : View) (tails : List ℕ) (changed : Bool) : Type 0 where

@@ -1,7 +1,7 @@
 -- What the poller's last step for a request makes of its pass.
 use Rattle.std.specs.Option.{is_some}
 use Rattle.gates.specs.Shows.{nth}
-use Rattle.history.specs.Legal.{IsOf as IsOfKind}
+use Rattle.history.specs.Legal.{IsPlacedAs}
 use Rattle.board.proofs.Common.{Bool, Decides, Did, Entry, Event, Extends, Facts, Freed, Invalid, IsAt, IsClear, IsLinkTimeout, IsOurs, IsPlaced, IsReplied, IsStep, IsTarget, IsTargetOf, Layout, Legal, Line, List, MayArm, None, NotHeld, Op, Open, Option, Park, Released, Req, Role, Seat, Setup, Sever, Severed, Shown, Some, Submitted, Tag, Thing, Timeout, View, Watched, [], ap, arith, before_in, bool_cases, by_sever, claim_at, cond, eq-eqb, events_of, extended_of, fails, fails_op, false, freed, gate_of, is_link_timeout, is_link_timeout_in, is_timeout, is_timer, lasts, length, negsuc, not, own_none, own_of, owns, pass_of, phase, placed_behind, placed_from, pollers, previous, refl, replied, request_at, same_itself, setup_of, severed_lasts, stands_for, submission, submission_some, submits, subst, sym, true, true≢false, word_of, ℕ, ⊎_elim, ◌&&◌, ◌++◌, ◌<◌, ◌==◌, ◌||◌, ◌∙◌, ◌∷◌, ◌≡◌, ◌≢◌}
 use Rattle.board.proofs.GoesLaws.{goes_freed}
 use Rattle.board.proofs.PassFacts.{freed_may, freed_more, same_freed}
@@ -62,7 +62,7 @@ or_right true b e = refl
 or_right false b e = e
 
 -- a LINK_TIMEOUT is a timer
-pub link_timer : (h : List Event) (q : Req) → IsLinkTimeout h q → IsOfKind h q is_timer true
+pub link_timer : (h : List Event) (q : Req) → IsLinkTimeout h q → IsPlacedAs h q is_timer true
 link_timer h q t = (t.0, t.1, or_right (is_timeout t.0.op) (is_link_timeout t.0.op) t.2)
 
 -- a target that is there, or not
@@ -82,7 +82,7 @@ pub placed_is : (b : Facts) (s : TableSeat) (q : Req) → IsOurs b s → q.k < s
 placed_is b s q o born = let x = submission_some (setup_of b.layout) (events_of s.me.0.seen) q o.ours.legal born in (placed_behind (before_in (events_of s.me.0.seen) q) x.0.entry, ap (placed_from (before_in (events_of s.me.0.seen) q)) x.1)
 
 -- who has no target and is no TIMEOUT is no timer
-pub no_timer : (h : List Event) (q : Req) → IsTargetOf h q None → IsOfKind h q is_timeout false → IsOfKind h q is_timer false
+pub no_timer : (h : List Event) (q : Req) → IsTargetOf h q None → IsPlacedAs h q is_timeout false → IsPlacedAs h q is_timer false
 no_timer h q none k = (
   k.0,
   k.1,
@@ -92,7 +92,7 @@ no_timer h q none k = (
 )
 
 -- a TIMEOUT is a timer
-pub timeout_timer : (h : List Event) (q : Req) → IsOfKind h q is_timeout true → IsOfKind h q is_timer true
+pub timeout_timer : (h : List Event) (q : Req) → IsPlacedAs h q is_timeout true → IsPlacedAs h q is_timer true
 timeout_timer h q k = (k.0, k.1, ap (λ b. b || is_link_timeout k.0.op) k.2)
 
 only_timeout : (o : Op) → is_timeout o ≡ true → is_link_timeout o ≡ false
@@ -100,7 +100,7 @@ only_timeout (Timeout ticks etime_success count) e = refl
 only_timeout o e = absurd (true≢false (sym e))
 
 -- a TIMEOUT that is open isn't severed
-pub timeout_clear : (h : List Event) (q : Req) → IsOfKind h q is_timeout true → Open h q → ¬ Severed h q
+pub timeout_clear : (h : List Event) (q : Req) → IsPlacedAs h q is_timeout true → Open h q → ¬ Severed h q
 timeout_clear h q k o v =
     let own : gate_of h q ≡ q = ap (λ (z : Option Entry). cond (is_link_timeout_in z) (previous q) q) k.1 ∙ ap (λ b. cond b (previous q) q) (only_timeout k.0.op k.2) in
     let clear = subst (λ (g : Req). IsClear h g) own o in clear.unsevered v

@@ -1,5 +1,5 @@
 -- What the poller's call on a timer comes to, by what its parts do.
-use Rattle.history.specs.Legal.{IsOf as IsOfKind}
+use Rattle.history.specs.Legal.{IsPlacedAs}
 use Rattle.board.specs.Polls.{PollTells, Polls, polled_by}
 use Rattle.board.specs.declared.poller.Expiry.{Expiry}
 use Rattle.board.specs.declared.poller.Firing.{Firing}
@@ -19,7 +19,7 @@ abbrev TableSeat : Type 0
 TableSeat = Seat (Option Thing) View
 
 -- a LINK_TIMEOUT is no TIMEOUT
-apart : (h : List Event) (r : Req) → IsLinkTimeout h r → IsOfKind h r is_timeout true → ⊥
+apart : (h : List Event) (r : Req) → IsLinkTimeout h r → IsPlacedAs h r is_timeout true → ⊥
 apart h r x y = let one : y.0 ≡ x.0 = (let z = sym y.1 ∙ x.1 in cc) in not_both y.0.op y.2 (ap (λ (e : Entry). is_link_timeout e.op) one ∙ x.2)
 
 -- ---- what its parts do
@@ -33,14 +33,14 @@ module _ (b : Facts) (r : Req) (s t : TableSeat) (d : ℕ) (o : IsOurs b s) (sea
   same_deadline w e at = let before = armed_before b (pass_of s) (pass_of t) [] w.goes mine none tt r e refl at in let z = sym is ∙ before in cc
 
   -- a TIMEOUT that didn't run out isn't armed
-  pub polls_unexpired : (may : Bool) → d ≤ clock_of (events_of s.me.0.seen) → IsOfKind (events_of s.me.0.seen) r is_timeout true → (x : Expiry) → (x ≡ Expiry.Expired → ⊥) → Expires b r (pass_of s) (pass_of t) x → Polls b may r (pass_of s) (pass_of t) Polled.NotArmed
+  pub polls_unexpired : (may : Bool) → d ≤ clock_of (events_of s.me.0.seen) → IsPlacedAs (events_of s.me.0.seen) r is_timeout true → (x : Expiry) → (x ≡ Expiry.Expired → ⊥) → Expires b r (pass_of s) (pass_of t) x → Polls b may r (pass_of s) (pass_of t) Polled.NotArmed
   polls_unexpired may le kind Expiry.Expired n k = absurd (n refl)
   polls_unexpired may le kind Expiry.Early n k =
       let w : Watched b s t = record { seat = seat; goes = k.goes; freed_is = k.others } in
       let early = k.tells.0 in let one = same_deadline w early.0 early.1 in let clock = clock_watched b s t o.seat w in let lt = early.2 in absurd (omega (arith, le, one, clock, lt))
   polls_unexpired may le kind Expiry.NotArmed n k =
       let w : Watched b s t = record { seat = seat; goes = k.goes; freed_is = k.others } in
-      let still = lasts_on b s t w (λ h. IsOfKind h r is_timeout true) r (kind_lasts (setup_of b.layout) r is_timeout true) born kind in record {
+      let still = lasts_on b s t w (λ h. IsPlacedAs h r is_timeout true) r (kind_lasts (setup_of b.layout) r is_timeout true) born kind in record {
         goes = k.goes;
         tells = (⊎_elim (λ un. un) (λ link. absurd (apart (events_of t.me.0.seen) r link still)) k.tells.0, k.tells.1);
         others = k.others;

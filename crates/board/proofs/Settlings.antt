@@ -9,7 +9,7 @@ use Rattle.board.proofs.TimersHeld.{freed_one, goes_one, none}
 use Rattle.board.proofs.TimersKept.{AllPass, is_calm, is_still, link_still}
 use Rattle.board.proofs.Watching.{born_on, stepped_after, still_ours}
 use Rattle.board.proofs.TimersHeld.{alarm_goes, fired_after}
-use Rattle.history.specs.Legal.{IsOf as IsOfKind}
+use Rattle.history.specs.Legal.{IsPlacedAs}
 
 abbrev TableSeat : Type 0
 TableSeat = Seat (Option Thing) View
@@ -92,11 +92,11 @@ module _ (h : List Event) (r : Req) (alarm : Alarm) (k : IsKept h r (Some alarm)
   pub kept_link : alarm ≡ Linked → IsUnfired h r
   kept_link is = let l = kept_as Linked is in ((l.0, l.1, l.2), k.1)
 
-  alone_of : (a : Alarm) → IsKept h r (Some a) → (a ≡ Linked → ⊥) → IsOfKind h r is_timeout true
+  alone_of : (a : Alarm) → IsKept h r (Some a) → (a ≡ Linked → ⊥) → IsPlacedAs h r is_timeout true
   alone_of Linked l n = absurd (n refl)
   alone_of (Alone f m) l n = (l.0, l.1, l.2.0)
 
-  pub kept_alone : (alarm ≡ Linked → ⊥) → IsOfKind h r is_timeout true
+  pub kept_alone : (alarm ≡ Linked → ⊥) → IsPlacedAs h r is_timeout true
   kept_alone n = alone_of alarm k.0 n
 
 -- ---- the target, which is the request before it

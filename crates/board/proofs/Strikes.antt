@@ -1,6 +1,6 @@
 -- What the poller's exchange at the target of a LINK_TIMEOUT whose deadline has come tells it.
 use Rattle.std.proofs.Math.Bool.{and-false}
-use Rattle.steps.specs.Plays.{IsIdleWord, is_idle, next_of}
+use Rattle.steps.specs.Plays.{IsIdleWord, is_idle, request_after}
 use Rattle.board.specs.TimerCalls.{StrikeTells}
 use Rattle.board.specs.declared.linked.Struck.{Struck}
 use Rattle.board.specs.declared.linked.Struck.TheVariants.{Took, Missed, Over}
@@ -47,8 +47,8 @@ module _ (b : Facts) (s t : TableSeat) (r : Req) (y g : ℕ) (here : IsAt b.layo
   at_is : request_at K y g ≡ previous r
   at_is = ap (λ (L : Layout). request_at L.cells y g) w.goes.kept.layout_is ∙ here.at
 
-  next_is : next_of (request_at K y g) ≡ r
-  next_is = let later = link_later (events_of s.me.0.seen) r due.linked in let e : suc (r.k - 1) ≡ r.k = omega arith in ap next_of at_is ∙ (λ i. record { ring = r.ring; k = e i })
+  next_is : request_after (request_at K y g) ≡ r
+  next_is = let later = link_later (events_of s.me.0.seen) r due.linked in let e : suc (r.k - 1) ≡ r.k = omega arith in ap request_after at_is ∙ (λ i. record { ring = r.ring; k = e i })
 
   linked : IsLinkTimeout H r
   linked = linked_on b s t r w due.born due.linked
@@ -61,15 +61,15 @@ module _ (b : Facts) (s t : TableSeat) (r : Req) (y g : ℕ) (here : IsAt b.layo
   pub struck_born : (request_at K y g).k < submits H (ring_of K y)
   struck_born = let lt = born in subst (λ (q : Req). q.k < submits H q.ring) (sym at_is) (let z : r.k - 1 < submits H r.ring = omega arith in z)
 
-  pub struck_due : (d : ℕ) × (phase H (next_of (request_at K y g)) ≡ armed d) × (d ≤ clock_of H)
+  pub struck_due : (d : ℕ) × (phase H (request_after (request_at K y g)) ≡ armed d) × (d ≤ clock_of H)
   struck_due = (due.deadline, subst (λ (q : Req). phase H q ≡ armed due.deadline) (sym next_is) (armed_on b s t r due.deadline w due.linked due.armed_is), (let clock = clock_on in let le = due.due in omega arith)) where
     clock_on : clock_of H ≡ clock_of (events_of s.me.0.seen)
     clock_on = clock_goes b (pass_of s) (pass_of t) [] w.goes (ap (λ (z : Role). stands_for z pollers) (sym w.goes.role_is ∙ w.seat.role)) tt
 
-  pub struck_target : IsTarget H (next_of (request_at K y g)) (request_at K y g)
+  pub struck_target : IsTarget H (request_after (request_at K y g)) (request_at K y g)
   struck_target = subst (λ (l : Req). IsTarget H l (request_at K y g)) (sym next_is) (subst (IsTarget H r) (sym at_is) (target_is H r linked))
 
-  pub struck_unfired : fired H (next_of (request_at K y g)) ≡ false
+  pub struck_unfired : fired H (request_after (request_at K y g)) ≡ false
   struck_unfired = subst (λ (q : Req). fired H q ≡ false) (sym next_is) (unfired_on b s t r w due.unfired)
 
   pub struck_fails : (e : Entry) × IsPlaced H (request_at K y g) e × (true ≡ fails e (negsuc 124))
@@ -163,7 +163,7 @@ module _ (b : Facts) (s t : TableSeat) (r : Req) (y g : ℕ) (here : IsAt b.layo
     quiet_fire h = ap (λ (c : Bool). cond c (becomes h (Fire r (previous r)) (phase h r)) (phase h r)) (other_target (events_of s.me.0.seen) r due.linked)
 
     -- it was ended
-    pub struck_took : u.table_id ≡ t.table_id → Extends t.me.0 (Did (Fire (next_of (request_at K y g)) (request_at K y g))) t.me.0.role u.me.0 → DidStrike b r (pass_of s) (pass_of u) Took
+    pub struck_took : u.table_id ≡ t.table_id → Extends t.me.0 (Did (Fire (request_after (request_at K y g)) (request_at K y g))) t.me.0.role u.me.0 → DidStrike b r (pass_of s) (pass_of u) Took
     struck_took id x' = let e : Event = Fire r (previous r) in let x : Extends t.me.0 (Did e) t.me.0.role u.me.0 = subst (λ (z : Req × Req). Extends t.me.0 (Did (Fire z.0 z.1)) t.me.0.role u.me.0) (λ i. (next_is i, at_is i)) x' in let ends : (h : List Event) → fired (e ∷ h) r ≡ true = λ h. ap (λ c. cond c true (fired h r)) (same_itself r) in record {
       goes = struck_goes e quiet_fire ends mine id x;
       tells = struck_fired e quiet_fire ends mine id x;
@@ -173,7 +173,7 @@ module _ (b : Facts) (s t : TableSeat) (r : Req) (y g : ℕ) (here : IsAt b.layo
     }
 
     -- a worker runs it
-    pub struck_missed : u.table_id ≡ t.table_id → Extends t.me.0 (Did (FireMiss (next_of (request_at K y g)) (request_at K y g))) t.me.0.role u.me.0 → DidStrike b r (pass_of s) (pass_of u) Missed
+    pub struck_missed : u.table_id ≡ t.table_id → Extends t.me.0 (Did (FireMiss (request_after (request_at K y g)) (request_at K y g))) t.me.0.role u.me.0 → DidStrike b r (pass_of s) (pass_of u) Missed
     struck_missed id x' = let e : Event = FireMiss r (previous r) in let x : Extends t.me.0 (Did e) t.me.0.role u.me.0 = subst (λ (z : Req × Req). Extends t.me.0 (Did (FireMiss z.0 z.1)) t.me.0.role u.me.0) (λ i. (next_is i, at_is i)) x' in let ends : (h : List Event) → fired (e ∷ h) r ≡ true = λ h. ap (λ c. cond c true (fired h r)) (same_itself r) in let quiet : (h : List Event) → phase (e ∷ h) r ≡ phase h r = λ h. refl in record {
       goes = struck_goes e quiet ends mine id x;
       tells = struck_fired e quiet ends mine id x;

@@ -1,6 +1,6 @@
 -- What the poller's looks at a timer, and its step that arms one, tell it.
 use Rattle.claim.specs.Facts.{Facts as FactsParts}
-use Rattle.history.specs.Legal.{IsOf as IsOfKind}
+use Rattle.history.specs.Legal.{IsPlacedAs}
 use Rattle.steps.proofs.CountsRead.{count_told}
 use Rattle.board.specs.declared.alarm.Timer.{Timer}
 use Rattle.board.specs.declared.poller.Arming.{Arming}
@@ -96,9 +96,9 @@ module _ (b : Facts) (s t : TableSeat) (r : Req) (x g d : ℕ) (o : IsOurs b s) 
 -- which timer a request is stays
 pub timer_on : (b : Facts) (s t : TableSeat) → Watched b s t → (r : Req) (k : Option Timer) → r.k < submits (events_of s.me.0.seen) r.ring → IsTimerAs (events_of s.me.0.seen) r k → IsTimerAs (events_of t.me.0.seen) r k
 timer_on b s t w r (Some k) born is = (is.0, lasts_on b s t w (λ h. IsPlaced h r is.0) r (placed_lasts (setup_of b.layout) r is.0) born is.1, is.2, is.3, is.4)
-timer_on b s t w r None born is = lasts_on b s t w (λ h. IsOfKind h r is_timer false) r (kind_lasts (setup_of b.layout) r is_timer false) born is
+timer_on b s t w r None born is = lasts_on b s t w (λ h. IsPlacedAs h r is_timer false) r (kind_lasts (setup_of b.layout) r is_timer false) born is
 
-pub as_timer : (h : List Event) (r : Req) (k : Timer) → IsTimerAs h r (Some k) → IsOfKind h r is_timer true
+pub as_timer : (h : List Event) (r : Req) (k : Timer) → IsTimerAs h r (Some k) → IsPlacedAs h r is_timer true
 as_timer h r k is = (is.0, is.1, by_alarm is.0 k.alarm is.4) where
   by_alarm : (e : Entry) (a : Alarm) → IsAlarm e a → is_timer e.op ≡ true
   by_alarm e Linked i = link_is e.op i
@@ -106,7 +106,7 @@ as_timer h r k is = (is.0, is.1, by_alarm is.0 k.alarm is.4) where
 
 -- the request was found Held, and then it was found to be severed, or shut out
 module _ (b : Facts) (r : Req) (s t u : TableSeat) (n m n' m' : ℕ) (w : Watched b s t) (p : Paid s.me.0 t.me.0 n m) (held : IsHeld t.me.0.seen r) (step : Stepped b.layout.cells r (pass_of s) (pass_of t)) (z : Watched b t u) (q : Paid t.me.0 u.me.0 n' m') where
-  pub arms_barred : IsBarred b.layout.cells r (pass_of t) (pass_of u) → IsOfKind (events_of u.me.0.seen) r is_timer true → Arms b r (pass_of s) (pass_of u) Shut
+  pub arms_barred : IsBarred b.layout.cells r (pass_of t) (pass_of u) → IsPlacedAs (events_of u.me.0.seen) r is_timer true → Arms b r (pass_of s) (pass_of u) Shut
   arms_barred i k = record {
     goes = goes_then b (pass_of s) (pass_of t) (pass_of u) [] w.goes z.goes;
     tells = record { barred = barred_after b r s t u n m p i; timer = k; held = held_before b r s t u n' m' (was_held b.layout.cells r s t (w.goes.later, w.goes.seen_is) step held) z q; unfreed = z.freed_is r ∙ held.1 };

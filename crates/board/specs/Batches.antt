@@ -1,6 +1,7 @@
 -- What a batch is, entry by entry, and what it asks for.
 use Rattle.std.specs.Prelude.{◌≡◌, ℕ, suc, ◌+◌, ◌/◌, ◌<◌, Bool, true, false, cond, List, [], ◌∷◌, ◌++◌, length}
 use Rattle.std.specs.Global.{Vec}
+use Rattle.board.specs.declared.queue.TheConstants.{LAST_GENERATION}
 use Rattle.entry.specs.Entry.{Entry}
 use Rattle.history.specs.declared.event.Event.{Event}
 use Rattle.history.specs.declared.event.Event.TheVariants.{Submit}
@@ -42,5 +43,5 @@ pub record IsReady (b : Facts) (p : Pass) (ring k : ℕ) (xs : Entries) : Type 0
   pub role : p.view.role ≡ Submitter ring
   pub next : k ≡ submits (seen_of p) ring
   pub free : (i : ℕ) → i < length xs → IsFree b.layout.cells (seen_of p) (nth ring (k + i))
-  pub fresh : (i : ℕ) → i < length xs → (k + i) / cells_in b.layout.cells ring < 16777215
+  pub fresh : (i : ℕ) → i < length xs → (k + i) / cells_in b.layout.cells ring < LAST_GENERATION
   pub fit : AreFit xs

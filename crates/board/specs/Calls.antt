@@ -4,7 +4,7 @@ use Rattle.claim.specs.Claim.{Claim, fits, packed}
 use Rattle.claim.specs.declared.tag.Tag.{Tag}
 use Rattle.history.specs.declared.req.Req.{Req}
 use Rattle.history.specs.declared.event.Event.{Event}
-use Rattle.history.specs.{Cause, phase, unborn, waits, runs, armed, replied, reaped, submits, IsReplied, Open, is_timer, IsOf as IsOfKind}
+use Rattle.history.specs.{Cause, phase, unborn, waits, runs, armed, replied, reaped, submits, IsReplied, Open, is_timer, IsPlacedAs}
 use Rattle.steps.specs.declared.line.Line.{Line}
 use Rattle.steps.specs.declared.view.Role.TheVariants.{Poller}
 use Rattle.steps.specs.declared.view.Step.{Step}
@@ -82,7 +82,7 @@ IsUnheld j r = ((phase (events_of j) r ≡ unborn) ⊎ IsReplied (phase (events_
 
 -- the request waits, is open and may be begun
 abbrev pub MayStart : List Line → Req → Type 0
-MayStart j r = (phase (events_of j) r ≡ waits) × Open (events_of j) r × IsOfKind (events_of j) r is_timer false
+MayStart j r = (phase (events_of j) r ≡ waits) × Open (events_of j) r × IsPlacedAs (events_of j) r is_timer false
 
 -- the ring's next request
 abbrev pub next_of : Pass → ℕ → Req

@@ -1,13 +1,14 @@
 -- What the poller knows of the requests of each ring, and what it finds out for a release.
 use Rattle.std.specs.Prelude.{◌≡◌, ◌⊎◌, ℕ, suc, ◌==◌, ◌||◌, not, cond, ◌+◌, ◌-◌, ◌*◌, ◌<◌, ◌≤◌, Bool, true, false, ℤ, negsuc, List, [], ◌∷◌, ◌++◌, length, slice_get, Option, Some, None}
 use Rattle.atomic_table.specs.declared.shared.Seat.{Seat}
+use Rattle.claim.specs.declared.word.TheConstants.{GENERATIONS}
 use Rattle.claim.specs.Facts.{Facts as FactsParts}
 use Rattle.entry.specs.Entry.{Entry, fails, drains, links_soft, links_hard, is_link_timeout}
 use Rattle.gates.specs.{Kept, Stands, HasCell, added, waiting, Trails, ArePlain, IsPlainAt, HaveGoneOn, Slot}
 use Rattle.history.specs.declared.req.Req.{Req}
 use Rattle.history.specs.declared.event.Event.{Event}
 use Rattle.history.specs.declared.event.Event.TheVariants.{Park, Sever}
-use Rattle.history.specs.{phase, submits, waits, replied, by_sever, reply, same, IsReplied, IsPlaced, IsChainDone, IsBefore, IsChainBefore, IsLinkTimeout, Severed, Open, is_timer, IsOf as IsOfKind}
+use Rattle.history.specs.{phase, submits, waits, replied, by_sever, reply, same, IsReplied, IsPlaced, IsChainDone, IsBefore, IsChainBefore, IsLinkTimeout, Severed, Open, is_timer, IsPlacedAs}
 use Rattle.steps.specs.declared.line.Line.{Line}
 use Rattle.steps.specs.declared.slot.Thing.{Thing}
 use Rattle.steps.specs.declared.view.Step.{Step}
@@ -48,7 +49,7 @@ pub record Watches (K : List ℕ) (j : List Line) (q : Req) (r : Kept) : Type 0 
 -- the number of one of the requests that a ring's cells may have
 pub record IsNumbered (K : List ℕ) (q : Req) : Type 0 where
   pub there : q.ring < length K
-  pub few : q.k < 16777216 * cells_in K q.ring
+  pub few : q.k < GENERATIONS * cells_in K q.ring
 
 -- the request has this cell, as this generation
 pub record IsAt (K : List ℕ) (cell generation : ℕ) (q : Req) : Type 0 where
@@ -64,7 +65,7 @@ pub record IsOurs (b : Facts) (s : Seat (Option Thing) View) : Type 0 where
 pub record IsSubmitted (b : Facts) (s : Seat (Option Thing) View) (cell generation : ℕ) (q : Req) : Type 0 where
   pub ours : IsOurs b s
   pub at : IsAt b.layout.cells cell generation q
-  pub small : generation < 16777216
+  pub small : generation < GENERATIONS
   pub numbered : IsNumbered b.layout.cells q
   pub born : q.k < submits (events_of s.me.0.seen) q.ring
 
@@ -183,7 +184,7 @@ IsShutOut K r p q = IsBlocked K r p q × IsUnended K r p q
 
 -- it is a timer that waits and may be armed
 abbrev pub MayArm : List Event → Req → Type 0
-MayArm h r = (phase h r ≡ waits) × Open h r × (¬ Severed h r) × IsOfKind h r is_timer true
+MayArm h r = (phase h r ≡ waits) × Open h r × (¬ Severed h r) × IsPlacedAs h r is_timer true
 
 -- what a release says of a request that was found Held, by its answer
 abbrev pub Decided : Facts → Req → Pass → Pass → Released → Type 0

@@ -3,7 +3,7 @@ use Rattle.std.specs.Prelude.{◌≡◌, ℕ, ◌+◌, ◌≤◌, ◌<◌, ◌�
 use Rattle.entry.specs.Entry.{Entry, fails}
 use Rattle.history.specs.declared.req.Req.{Req}
 use Rattle.history.specs.declared.event.Event.{Event}
-use Rattle.history.specs.{phase, armed, fired, clock_of, IsPlaced, is_timer, is_timeout, is_link_timeout, ticks_of, count_of, IsOf as IsOfKind}
+use Rattle.history.specs.{phase, armed, fired, clock_of, IsPlaced, is_timer, is_timeout, is_link_timeout, ticks_of, count_of, IsPlacedAs}
 use Rattle.steps.specs.Cells.{IsCell, request_at, total}
 use Rattle.board.specs.declared.alarm.Alarm.{Alarm}
 use Rattle.board.specs.declared.alarm.Timer.{Timer}
@@ -35,7 +35,7 @@ IsPast h to = (to < clock_of h) ⊎ (2147483647 < to)
 
 -- which timer the request is placed as, if any
 abbrev pub IsTimerAs : List Event → Req → Option Timer → Type 0
-IsTimerAs h q None = IsOfKind h q is_timer false
+IsTimerAs h q None = IsPlacedAs h q is_timer false
 IsTimerAs h q (Some t) = (e : Entry) × IsPlaced h q e × (ticks_of e.op ≡ Some t.ticks) × (t.ticks ≤ 2147483647) × IsAlarm e t.alarm
 
 -- a TIMEOUT's count is looked up too

@@ -3,7 +3,7 @@ use Rattle.std.specs.Prelude.{◌≡◌, Bool, true, false, List, [], ◌∷◌}
 use Rattle.history.specs.declared.req.Req.{Req}
 use Rattle.history.specs.declared.event.Event.{Event}
 use Rattle.history.specs.declared.event.Event.TheVariants.{Expire, Count, Fire, FireMiss, Settle}
-use Rattle.history.specs.{IsTarget, is_timeout, previous, IsOf as IsOfKind}
+use Rattle.history.specs.{IsTarget, is_timeout, previous, IsPlacedAs}
 use Rattle.steps.specs.Journal.{freed}
 use Rattle.work.specs.{Facts, Pass, seen_of}
 use Rattle.board.specs.Calls.{Goes, Stepped}
@@ -30,7 +30,7 @@ PollTells b may r p q Polled.Counted = HasCounted (seen_of q) r
 PollTells b may r p q Polled.Took = HasRung may r q
 PollTells b may r p q Polled.Missed = HasRung may r q
 PollTells b may r p q Polled.Settled = HasSettled (seen_of q) r
-PollTells b may r p q Polled.Early = IsEarly (seen_of q) r × IsOfKind (seen_of q) r is_timeout true × IsUncounted (seen_of q) r × Stepped b.layout.cells r p q
+PollTells b may r p q Polled.Early = IsEarly (seen_of q) r × IsPlacedAs (seen_of q) r is_timeout true × IsUncounted (seen_of q) r × Stepped b.layout.cells r p q
 PollTells b may r p q Polled.Fewer = HasFewer (seen_of p) r × IsEarly (seen_of p) r
 PollTells b may r p q Polled.TargetOpen = IsTargetOpen b.layout.cells r p q × IsEarly (seen_of q) r
 PollTells b may r p q Polled.Due = (may ≡ false) × IsTargetOpen b.layout.cells r p q × IsDueLinked (seen_of q) r

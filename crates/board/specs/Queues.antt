@@ -2,6 +2,7 @@
 use Rattle.std.specs.Prelude.{◌≡◌, ◌⊎◌, ℕ, zero, suc, ◌+◌, ◌/◌, ◌<◌, ◌≤◌, ◌==◌, ◌&&◌, ◌||◌, not, Bool, true, List, Option}
 use Rattle.atomic_table.specs.Seated.{TableId}
 use Rattle.atomic_table.specs.declared.shared.Seat.{Seat}
+use Rattle.board.specs.declared.queue.TheConstants.{LAST_GENERATION}
 use Rattle.claim.specs.Facts.{Facts}
 use Rattle.history.specs.declared.req.Req.{Req}
 use Rattle.history.specs.declared.event.Event.{Event}
@@ -82,5 +83,5 @@ HasLookedAt K ring p q = (m : Req) × (m.ring ≡ ring) × Stepped K m p q
 -- why the ring's next requests, from k on and so many, find no room, by the pass p that became q
 abbrev pub RefusesRoom : List ℕ → ℕ → ℕ → ℕ → Pass → Pass → SubmitError → Type 0
 RefusesRoom K ring k count p q Full = (cells_in K ring < count) ⊎ (((i : ℕ) × (i < count) × ¬ IsFree K (seen_of q) (nth ring (k + i))) × HasLookedAt K ring p q)
-RefusesRoom K ring k count p q Spent = AreFree K q.view ring k count × ((i : ℕ) × (i < count) × ((k + i) / cells_in K ring ≡ 16777215))
+RefusesRoom K ring k count p q Spent = AreFree K q.view ring k count × ((i : ℕ) × (i < count) × ((k + i) / cells_in K ring ≡ LAST_GENERATION))
 RefusesRoom K ring k count p q _ = ⊥

@@ -1,5 +1,6 @@
 -- When each refusal comes.
 use Rattle.std.specs.Prelude.{◌≡◌, ℕ, ◌/◌, ◌≤◌, ◌⊎◌, List, length}
+use Rattle.board.specs.declared.queue.TheConstants.{LAST_GENERATION}
 use Rattle.entry.specs.Entry.{Entry}
 use Rattle.history.specs.declared.req.Req.{Req}
 use Rattle.history.specs.{phase, IsReplied, Fits}
@@ -17,7 +18,7 @@ use Rattle.work.specs.{Facts, Pass, seen_of}
 abbrev pub RefusesEntry : Facts → Entry → List ℕ → Req → Pass → Pass → SubmitError → Type 0
 RefusesEntry b e bytes r p q BufferLength = ¬ Fits e bytes
 RefusesEntry b e bytes r p q Full = Fits e bytes × (¬ IsFree b.layout.cells (seen_of q) r) × HasLookedAt b.layout.cells r.ring p q
-RefusesEntry b e bytes r p q Spent = Fits e bytes × IsFree b.layout.cells (seen_of q) r × (r.k / cells_in b.layout.cells r.ring ≡ 16777215)
+RefusesEntry b e bytes r p q Spent = Fits e bytes × IsFree b.layout.cells (seen_of q) r × (r.k / cells_in b.layout.cells r.ring ≡ LAST_GENERATION)
 
 -- why this batch is not submitted as the ring's requests from k on, by the pass p that became q
 abbrev pub RefusesBatch : Facts → Entries → ℕ → ℕ → Pass → Pass → SubmitError → Type 0

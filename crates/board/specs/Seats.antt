@@ -1,6 +1,7 @@
 -- What is true of the seats of the poller and of the submitters between two calls.
 use Rattle.std.specs.Prelude.{◌≡◌, ℕ, ◌*◌, ◌<◌, ◌≤◌, false, List, [], Option, length, slice_index}
 use Rattle.atomic_table.specs.declared.shared.Seat.{Seat}
+use Rattle.board.specs.declared.queue.TheConstants.{LAST_GENERATION}
 use Rattle.history.specs.declared.req.Req.{Req}
 use Rattle.history.specs.History.{phase, submits}
 use Rattle.history.specs.Legal.{Legal}
@@ -32,7 +33,7 @@ pub record IsSubmitterSeat (s : Seat (Option Thing) View) (ring next : ℕ) (age
   pub ring_there : ring < length s.me.0.layout.cells
   pub next_is : next ≡ submits (events_of s.me.0.seen) ring
   pub narrow : cells_in s.me.0.layout.cells ring ≤ 1024
-  pub few : next ≤ 16777215 * cells_in s.me.0.layout.cells ring
+  pub few : next ≤ LAST_GENERATION * cells_in s.me.0.layout.cells ring
   pub unlent : (q : Req) → q.ring ≡ ring → lent s.me.0.seen q ≡ false
   pub many : (length ages ≡ cells_in s.me.0.layout.cells ring) × (length facts ≡ cells_in s.me.0.layout.cells ring)
   pub legal : Legal (setup_of s.me.0.layout) (events_of s.me.0.seen)

@@ -1,11 +1,12 @@
 -- What the poller's calls on timers make of its pass, and what their answers say.
 use Rattle.std.specs.Prelude.{◌≡◌, ◌≢◌, ◌⊎◌, ℕ, ◌+◌, ◌<◌, ◌≤◌, pos, negsuc, Bool, true, false, List, [], ◌∷◌, Option, Some, None}
 use Rattle.atomic_table.specs.declared.shared.Seat.{Seat}
+use Rattle.claim.specs.declared.word.TheConstants.{GENERATIONS}
 use Rattle.entry.specs.Entry.{Entry, fails}
 use Rattle.history.specs.declared.req.Req.{Req}
 use Rattle.history.specs.declared.event.Event.{Event}
 use Rattle.history.specs.declared.event.Event.TheVariants.{Arm, Expire, Count, Fire, FireMiss, Settle}
-use Rattle.history.specs.{phase, unborn, armed, replied, by_expire, by_count, by_settle, fired, clock_of, submits, later_replies, is_replied, IsReplied, IsLinkTimeout, IsPlaced, IsTarget, Severed, is_timeout, is_timer, previous, ticks_of, count_of, IsOf as IsOfKind}
+use Rattle.history.specs.{phase, unborn, armed, replied, by_expire, by_count, by_settle, fired, clock_of, submits, later_replies, is_replied, IsReplied, IsLinkTimeout, IsPlaced, IsTarget, Severed, is_timeout, is_timer, previous, ticks_of, count_of, IsPlacedAs}
 use Rattle.steps.specs.declared.line.Line.{Line}
 use Rattle.steps.specs.declared.slot.Thing.{Thing}
 use Rattle.steps.specs.declared.view.View.{View}
@@ -48,18 +49,18 @@ IsBarred K r p q = Severed (seen_of q) r ⊎ IsShutOut K r p q
 
 -- it waits for the poller, and is no timer
 abbrev pub IsNoTimer : List Line → Req → Type 0
-IsNoTimer j r = IsHeld j r × IsOfKind (events_of j) r is_timer false
+IsNoTimer j r = IsHeld j r × IsPlacedAs (events_of j) r is_timer false
 
 -- a timer that is severed, or waits for another. At a step of this call it waited for the poller, which hasn't moved it since
 pub record IsShutTimer (K : List ℕ) (r : Req) (p q : Pass) : Type 0 where
   pub barred : IsBarred K r p q
-  pub timer : IsOfKind (seen_of q) r is_timer true
+  pub timer : IsPlacedAs (seen_of q) r is_timer true
   pub held : WasHeld K r p q
   pub unfreed : freed q.view.seen r ≡ false
 
 -- the request waits for the poller, as the last step of the call found, and is this timer
 pub record IsHeldTimer (b : Facts) (s t : Seat (Option Thing) View) (generation : ℕ) (r : Req) (k : Timer) : Type 0 where
-  pub small : generation < 16777216
+  pub small : generation < GENERATIONS
   pub born : r.k < submits (events_of t.me.0.seen) r.ring
   pub held : IsHeld t.me.0.seen r
   pub timer : IsTimerAs (events_of t.me.0.seen) r (Some k)
@@ -100,7 +101,7 @@ IsUnarmed h r = (d : ℕ) → phase h r ≢ armed d
 pub record IsArmedAt (b : Facts) (s : Seat (Option Thing) View) (cell generation : ℕ) (r : Req) (deadline : ℕ) : Type 0 where
   pub ours : IsOurs b s
   pub at : IsAt b.layout.cells cell generation r
-  pub small : generation < 16777216
+  pub small : generation < GENERATIONS
   pub armed_is : phase (events_of s.me.0.seen) r ≡ armed deadline
   pub born : r.k < submits (events_of s.me.0.seen) r.ring
 
@@ -142,7 +143,7 @@ IsNoneToExpire h r = ((d : ℕ) → phase h r ≢ armed d) ⊎ IsLinkTimeout h r
 -- what an expiry says of the request, by its answer
 abbrev pub ExpiryTells : Facts → Req → Pass → Pass → Expiry → Type 0
 ExpiryTells b r p q Expired = HasExpired (seen_of q) r
-ExpiryTells b r p q Early = IsEarly (seen_of q) r × IsOfKind (seen_of q) r is_timeout true × Stepped b.layout.cells r p q
+ExpiryTells b r p q Early = IsEarly (seen_of q) r × IsPlacedAs (seen_of q) r is_timeout true × Stepped b.layout.cells r p q
 ExpiryTells b r p q NotArmed = IsNoneToExpire (seen_of q) r × Stepped b.layout.cells r p q
 
 -- what became of the pass that was to let r run out
@@ -211,7 +212,7 @@ IsTargetOpen K r p q = (t : Req) × IsTarget (seen_of q) r t × (¬ IsReplied (p
 
 -- it isn't armed, or is a TIMEOUT
 abbrev pub IsNoneToSettle : List Event → Req → Type 0
-IsNoneToSettle h r = ((d : ℕ) → phase h r ≢ armed d) ⊎ IsOfKind h r is_timeout true
+IsNoneToSettle h r = ((d : ℕ) → phase h r ≢ armed d) ⊎ IsPlacedAs h r is_timeout true
 
 -- what a settling says of the request, by its answer
 abbrev pub SettlingTells : Facts → Req → Pass → Pass → Settling → Type 0

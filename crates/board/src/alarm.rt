@@ -1,6 +1,8 @@
 //! What the poller finds out of timers, what it keeps of those that it armed, and how it arms one.
 ghost use Rattle.std.specs.Prelude.{◌≡◌, ◌+◌, ◌*◌, ◌<◌, ◌≤◌, true, false, Some, IfOk, IfErr};
+ghost use Rattle.limits.specs.declared.TheConstants.{TICK};
 ghost use Rattle.gates.specs.EntryRows.{added, waiting};
+ghost use Rattle.claim.specs.declared.word.TheConstants.{GENERATIONS};
 ghost use Rattle.history.specs.{Open, Severed, IsReplied, clock_of, phase, submits};
 ghost use Rattle.steps.specs.Journal.{events_of};
 ghost use Rattle.work.specs.Passes.{pass_of};
@@ -52,7 +54,7 @@ fn timer_in(board: &Board, seat: &mut TableSeat, cell: Cell, req: Req) -> Option
     requires at { IsAt board.now.layout.cells cell.index cell.generation req }
     requires born { req.k < submits (events_of seat.old.me.0.seen) req.ring }
     ensures watched { Watched board.now seat.old seat.new }
-    ensures told { cell.generation < 16777216 → (IsReplied (phase (events_of seat.new.me.0.seen) req) → ⊥) → IsTimerAs (events_of seat.new.me.0.seen) req result }
+    ensures told { cell.generation < GENERATIONS → (IsReplied (phase (events_of seat.new.me.0.seen) req) → ⊥) → IsTimerAs (events_of seat.new.me.0.seen) req result }
     ensures steps { Paid seat.old.me.0 seat.new.me.0 0 (looks_at result) }
 {
     let facts = unpack_facts(seat::look_at_note(&board.table.shared, seat, cell.index, FACTS));
@@ -107,7 +109,7 @@ fn set_alarm(
     requires here { IsSubmitted board.now seat.old place.cell.index place.cell.generation place.req }
     requires open { (Severed (events_of seat.old.me.0.seen) place.req → ⊥) × Open (events_of seat.old.me.0.seen) place.req }
     requires timer { IsTimerAs (events_of seat.old.me.0.seen) place.req (Some timer) }
-    requires clock { (clock ≡ clock_of (events_of seat.old.me.0.seen)) × (clock ≤ 2147483647) }
+    requires clock { (clock ≡ clock_of (events_of seat.old.me.0.seen)) × (clock ≤ TICK) }
     ensures seat { IsPollerSeat seat.new }
     ensures arms { Arms board.now place.req (pass_of seat.old) (pass_of seat.new) result }
     ensures keeps { Keeps (events_of seat.new.me.0.seen) place.req alarm.old alarm.new result }
@@ -158,7 +160,7 @@ fn arm_known(
     requires at { IsAt board.now.layout.cells place.cell.index place.cell.generation place.req }
     requires knows { KnowsRow board.now.layout.cells seat.old.me.0.seen place.req.ring row.old }
     requires has { place.req.k < added row.old }
-    requires clock { (clock ≡ clock_of (events_of seat.old.me.0.seen)) × (clock ≤ 2147483647) }
+    requires clock { (clock ≡ clock_of (events_of seat.old.me.0.seen)) × (clock ≤ TICK) }
     ensures seat { IsPollerSeat seat.new }
     ensures arms { Arms board.now place.req (pass_of seat.old) (pass_of seat.new) result }
     ensures keeps { Keeps (events_of seat.new.me.0.seen) place.req alarm.old alarm.new result }
@@ -191,7 +193,7 @@ fn arm_plain(
     requires at { IsAt board.now.layout.cells place.cell.index place.cell.generation place.req }
     requires knows { KnowsRow board.now.layout.cells seat.old.me.0.seen place.req.ring row.now }
     requires plain { place.req.k < row.now.plain }
-    requires clock { (clock ≡ clock_of (events_of seat.old.me.0.seen)) × (clock ≤ 2147483647) }
+    requires clock { (clock ≡ clock_of (events_of seat.old.me.0.seen)) × (clock ≤ TICK) }
     ensures seat { IsPollerSeat seat.new }
     ensures arms { Arms board.now place.req (pass_of seat.old) (pass_of seat.new) result }
     ensures keeps { Keeps (events_of seat.new.me.0.seen) place.req alarm.old alarm.new result }
@@ -217,7 +219,7 @@ pub(crate) fn arm(
     requires ours { IsOurs board.now seat.old }
     requires at { IsAt board.now.layout.cells place.cell.index place.cell.generation place.req }
     requires knows { KnowsRow board.now.layout.cells seat.old.me.0.seen place.req.ring row.old }
-    requires clock { (clock ≡ clock_of (events_of seat.old.me.0.seen)) × (clock ≤ 2147483647) }
+    requires clock { (clock ≡ clock_of (events_of seat.old.me.0.seen)) × (clock ≤ TICK) }
     ensures seat { IsPollerSeat seat.new }
     ensures arms { Arms board.now place.req (pass_of seat.old) (pass_of seat.new) result }
     ensures keeps { Keeps (events_of seat.new.me.0.seen) place.req alarm.old alarm.new result }

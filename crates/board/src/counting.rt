@@ -1,5 +1,6 @@
 //! How the poller answers a TIMEOUT that counts completions: it looks which later requests of its ring have replied.
 ghost use Rattle.std.specs.Prelude.{◌≡◌, ◌≢◌, ℕ, ◌+◌, ◌-◌, ◌<◌, ◌≤◌, true, false, Some, length};
+ghost use Rattle.claim.specs.declared.word.TheConstants.{GENERATIONS};
 ghost use Rattle.entry.specs.Entry.{Entry};
 ghost use Rattle.history.specs.{IsPlaced, armed, later_replies, phase, submits, count_of};
 ghost use Rattle.steps.specs.{cells_in, events_of};
@@ -66,7 +67,7 @@ fn has_counted(board: &Board, seat: &mut TableSeat, req: Req, count: u64) -> boo
 fn end_counted(board: &Board, seat: &mut TableSeat, cell: Cell, req: Req, deadline: u32) -> bool
     requires ours { IsOurs board.now seat.old }
     requires at { IsAt board.now.layout.cells cell.index cell.generation req }
-    requires small { cell.generation < 16777216 }
+    requires small { cell.generation < GENERATIONS }
     requires armed { (d : ℕ) → phase (events_of seat.old.me.0.seen) req ≡ armed d → d ≡ deadline }
     requires born { req.k < submits (events_of seat.old.me.0.seen) req.ring }
     requires enough { (e : Entry) × IsPlaced (events_of seat.old.me.0.seen) req e × (0 < count_of e.op) × (count_of e.op ≤ later_replies (events_of seat.old.me.0.seen) req) }

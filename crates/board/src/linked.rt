@@ -1,5 +1,6 @@
 //! How the poller ends a LINK_TIMEOUT that it armed: it fires, or is settled after its target's reply.
 ghost use Rattle.std.specs.Prelude.{◌≡◌, ◌≤◌, ◌<◌, ℕ, List, true, false, Some};
+ghost use Rattle.claim.specs.declared.word.TheConstants.{GENERATIONS};
 ghost use Rattle.history.specs.declared.event.Event.{Event};
 ghost use Rattle.history.specs.declared.req.Req.{Req as Request};
 ghost use Rattle.history.specs.{IsLinkTimeout, IsTarget, previous, IsReplied, armed, clock_of, fired, phase, submits};
@@ -33,10 +34,10 @@ pub(crate) enum Struck {
 /// Where the target of a LINK_TIMEOUT lies, the request before it.
 fn target_cell(board: &Board, cell: Cell, req: Req) -> Cell
     requires at { IsAt board.now.layout.cells cell.index cell.generation req }
-    requires small { cell.generation < 16777216 }
+    requires small { cell.generation < GENERATIONS }
     requires linked { (h : List Event) × Legal (setup_of board.now.layout) h × (req.k < submits h req.ring) × IsLinkTimeout h req }
     ensures at { IsAt board.now.layout.cells result.index result.generation (previous req) }
-    ensures small { result.generation < 16777216 }
+    ensures small { result.generation < GENERATIONS }
 {
     let target = Req {
         ring: req.ring,
@@ -78,7 +79,7 @@ pub(crate) fn end_linked(
 fn target_replied(board: &Board, seat: &mut TableSeat, cell: Cell, req: Req) -> bool
     requires ours { IsOurs board.now seat.old }
     requires at { IsAt board.now.layout.cells cell.index cell.generation req }
-    requires small { cell.generation < 16777216 }
+    requires small { cell.generation < GENERATIONS }
     requires born { req.k < submits (events_of seat.old.me.0.seen) req.ring }
     requires linked { IsLinkTimeout (events_of seat.old.me.0.seen) req }
     ensures watched { Watched board.now seat.old seat.new }
@@ -140,7 +141,7 @@ pub(crate) fn settle(
 pub(crate) fn strike(board: &Board, seat: &mut TableSeat, cell: Cell, req: Req) -> Struck
     requires ours { IsOurs board.now seat.old }
     requires at { IsAt board.now.layout.cells cell.index cell.generation req }
-    requires small { cell.generation < 16777216 }
+    requires small { cell.generation < GENERATIONS }
     requires due { IsDueLinked (events_of seat.old.me.0.seen) req }
     ensures seat { IsPollerSeat seat.new }
     ensures strikes { DidStrike board.now req (pass_of seat.old) (pass_of seat.new) result }

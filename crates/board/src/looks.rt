@@ -1,5 +1,6 @@
 //! What one look of the poller tells of a request.
 ghost use Rattle.std.specs.Prelude.{◌≡◌, ◌<◌, Bool, true, false};
+ghost use Rattle.claim.specs.declared.word.TheConstants.{GENERATIONS};
 ghost use Rattle.entry.specs.Entry.{Entry};
 ghost use Rattle.board.specs.declared.poller.Released.TheVariants.{NotHeld};
 ghost use Rattle.gates.specs.Slots.{traits_of};
@@ -52,7 +53,7 @@ pub(crate) fn facts_in(
 ) -> Option<FactsWord>
     requires ours { IsOurs board.now seat.old }
     requires at { IsAt board.now.layout.cells cell.index cell.generation req }
-    requires small { cell.generation < 16777216 }
+    requires small { cell.generation < GENERATIONS }
     requires born { req.k < submits (events_of seat.old.me.0.seen) req.ring }
     ensures watched { Watched board.now seat.old seat.new }
     ensures told { ToldFacts (events_of seat.new.me.0.seen) req result }
@@ -95,7 +96,7 @@ pub(crate) fn is_held(board: &Board, seat: &mut TableSeat, cell: Cell, req: Req)
     requires ours { IsOurs board.now seat.old }
     requires at { IsAt board.now.layout.cells cell.index cell.generation req }
     ensures watched { Watched board.now seat.old seat.new }
-    ensures held { result ≡ true → (phase (events_of seat.new.me.0.seen) req ≡ waits) × (cell.generation < 16777216) }
+    ensures held { result ≡ true → (phase (events_of seat.new.me.0.seen) req ≡ waits) × (cell.generation < GENERATIONS) }
     ensures unfreed { result ≡ true → (freed seat.new.me.0.seen req ≡ false) × Stepped board.now.layout.cells req (pass_of seat.old) (pass_of seat.new) }
     ensures lost { result ≡ false → Decides board.now req (pass_of seat.old) (pass_of seat.new) NotHeld }
     ensures steps { Paid seat.old.me.0 seat.new.me.0 0 1 }

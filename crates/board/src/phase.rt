@@ -1,5 +1,6 @@
 //! Where a request stands, as its claim word tells.
 ghost use Rattle.std.specs.Prelude.{◌≡◌, ℕ, ◌<◌, Bool, List, IsTrue};
+ghost use Rattle.claim.specs.declared.word.TheConstants.{GENERATIONS};
 ghost use Rattle.claim.specs.declared.tag.Tag.TheVariants.{Done};
 ghost use Rattle.claim.specs.Claim.{fits, packed};
 ghost use Rattle.steps.specs.declared.line.Line.{Line};
@@ -43,7 +44,7 @@ fn parts(word: u64) -> ClaimWord
 pub(crate) fn told(word: u64, generation: u64) -> Phase
     requires { IsWord word }
     ensures stands { (K : List ℕ) (j : List Line) (x : ℕ) → Shown K j x word → Stands j (request_at K x generation) result }
-    ensures present { IsPresent result → generation < 16777216 }
+    ensures present { IsPresent result → generation < GENERATIONS }
 {
     let claim = parts(word);
     let now = u64::from(claim.generation);
@@ -66,7 +67,7 @@ pub(crate) fn told(word: u64, generation: u64) -> Phase
 /// Whether the word tells of a reply that is a failure.
 pub(crate) fn has_failed(word: u64) -> bool
     requires { IsWord word }
-    ensures { (c : Cause) (f : Bool) (g p : ℕ) → g < 16777216 → p < 4294967296 → word ≡ word_of Done (cause_bits c f) g p → result ≡ f }
+    ensures { (c : Cause) (f : Bool) (g p : ℕ) → g < GENERATIONS → p < 4294967296 → word ≡ word_of Done (cause_bits c f) g p → result ≡ f }
 {
     parts(word).has_failed()
 }

@@ -203,7 +203,7 @@ fn is_known_free(queue: &Queue, grid: &Grid, k: u64) -> bool
     requires queue { (s : Seat (Option Thing) View) × IsQueue s queue.now × (grid.now ≡ s.me.0.layout.cells) }
     requires next { (queue.now.next ≤ k) × (k < queue.now.next + cells_in grid.now queue.now.ring) }
     ensures free { result ≡ true → IsFreeAfter queue.now grid.now k }
-    ensures fresh { result ≡ true → k / cells_in grid.now queue.now.ring < 16777215 }
+    ensures fresh { result ≡ true → k / cells_in grid.now queue.now.ring < LAST_GENERATION }
 {
     let Some(cell) = grid.locate(Req {
         ring: queue.ring,
@@ -223,7 +223,7 @@ fn are_known_free(queue: &Queue, grid: &Grid, count: u64) -> bool
     requires queue { (s : Seat (Option Thing) View) × IsQueue s queue.now × (grid.now ≡ s.me.0.layout.cells) }
     requires fits { count ≤ cells_in grid.now queue.now.ring }
     ensures free { result ≡ true → (s : Seat (Option Thing) View) → IsQueue s queue.now → grid.now ≡ s.me.0.layout.cells → AreFree grid.now s.me.0 queue.now.ring queue.now.next count }
-    ensures fresh { result ≡ true → (i : ℕ) → i < count → (queue.now.next + i) / cells_in grid.now queue.now.ring < 16777215 }
+    ensures fresh { result ≡ true → (i : ℕ) → i < count → (queue.now.next + i) / cells_in grid.now queue.now.ring < LAST_GENERATION }
 {
     for i in 0..count {
         if !is_known_free(queue, grid, queue.next + i) {
@@ -249,7 +249,7 @@ pub(crate) fn room(
     ensures kept { SameQueue queue.old queue.new }
     ensures looks { (n : ℕ) × (n ≤ cells_in grid.now queue.old.ring + 1) × Watched n seat.old.me.0 seat.new.me.0 × IfOk result (λ _. LinkedAreReaped (events_of seat.old.me.0.seen) queue.old.ring → n ≡ 0) }
     ensures free { IfOk result (λ _. AreFree grid.now seat.new.me.0 queue.old.ring queue.old.next count) }
-    ensures fresh { IfOk result (λ _. (i : ℕ) → i < count → (queue.old.next + i) / cells_in grid.now queue.old.ring < 16777215) }
+    ensures fresh { IfOk result (λ _. (i : ℕ) → i < count → (queue.old.next + i) / cells_in grid.now queue.old.ring < LAST_GENERATION) }
     ensures refused { IfErr result (λ e. RefusesRoom grid.now queue.old.ring queue.old.next count (pass_of seat.old) (pass_of seat.new) e) }
 {
     let cells = grid.cells_in(usize::from(queue.ring));

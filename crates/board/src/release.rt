@@ -1,7 +1,7 @@
 //! What the poller does for a request that waits.
 ghost use Rattle.std.specs.Prelude.{◌≡◌, ◌≢◌, ◌⊎◌, ◌+◌, ◌*◌, ◌≤◌, false, true, length, ◌<◌, IfSome, IfNone};
 ghost use Rattle.history.specs.declared.req.Req.{Req};
-ghost use Rattle.history.specs.{same, submits, phase, IsReplied, IsLinkTimeout, Open, Severed as IsSevered, is_timeout, IsOf as IsOfKind};
+ghost use Rattle.history.specs.{same, submits, phase, IsReplied, IsLinkTimeout, Open, Severed as IsSevered, is_timeout, IsPlacedAs};
 ghost use Rattle.steps.specs.Journal.{freed, events_of};
 ghost use Rattle.work.specs.{IsOf, seen_of, pass_of};
 ghost use Rattle.board.specs.declared.poller.Released.TheVariants.{Severed, Freed, Shut, Timer, NotHeld};
@@ -25,8 +25,8 @@ use work::Cell;
 fn is_worked(board: &Board, seat: &mut TableSeat, cell: Cell, req: Req) -> bool
     requires here { IsSubmitted board.now seat.old cell.index cell.generation req }
     ensures watched { Watched board.now seat.old seat.new }
-    ensures worked { result ≡ true → IsOfKind (events_of seat.new.me.0.seen) req is_timeout false }
-    ensures timer { result ≡ false → IsOfKind (events_of seat.new.me.0.seen) req is_timeout true ⊎ IsReplied (phase (events_of seat.new.me.0.seen) req) }
+    ensures worked { result ≡ true → IsPlacedAs (events_of seat.new.me.0.seen) req is_timeout false }
+    ensures timer { result ≡ false → IsPlacedAs (events_of seat.new.me.0.seen) req is_timeout true ⊎ IsReplied (phase (events_of seat.new.me.0.seen) req) }
     ensures steps { Paid seat.old.me.0 seat.new.me.0 0 1 }
 {
     match facts_in(board, seat, cell, req) {
@@ -40,8 +40,8 @@ fn hand_on(board: &Board, seat: &mut TableSeat, cell: Cell, req: Req, worked: bo
     requires here { IsSubmitted board.now seat.old cell.index cell.generation req }
     requires open { Open (events_of seat.old.me.0.seen) req }
     requires unlinked { IsLinkTimeout (events_of seat.old.me.0.seen) req → ⊥ }
-    requires worked { worked ≡ true → IsOfKind (events_of seat.old.me.0.seen) req is_timeout false }
-    requires timer { worked ≡ false → IsOfKind (events_of seat.old.me.0.seen) req is_timeout true ⊎ IsReplied (phase (events_of seat.old.me.0.seen) req) }
+    requires worked { worked ≡ true → IsPlacedAs (events_of seat.old.me.0.seen) req is_timeout false }
+    requires timer { worked ≡ false → IsPlacedAs (events_of seat.old.me.0.seen) req is_timeout true ⊎ IsReplied (phase (events_of seat.old.me.0.seen) req) }
     ensures seat { IsPollerSeat seat.new }
     ensures decides { Decides board.now req (pass_of seat.old) (pass_of seat.new) result }
     ensures steps { Paid seat.old.me.0 seat.new.me.0 0 1 }

@@ -2,6 +2,7 @@
 ghost use Rattle.std.specs.Prelude.{◌≡◌, ℕ, ◌+◌, ◌<◌, ◌≤◌, ◌↔◌, List, Some, None, IsTrue, length, slice_set, vec_capacity};
 ghost use mathlib.Core.Option.{some};
 ghost use lib.ListN.{get_elem?};
+ghost use Rattle.claim.specs.declared.word.TheConstants.{GENERATIONS};
 ghost use Rattle.history.specs.Legal.{Setup};
 ghost use Rattle.steps.specs.declared.line.Line.{Line};
 ghost use Rattle.steps.specs.declared.slot.Submission.{Submission};
@@ -75,7 +76,7 @@ fn take_submission(slots: &mut Vec<Option<Thing>>, cell: usize) -> Submission
 fn age_of(word: u64) -> u64
     requires { IsWord word }
     ensures ages { (K : List ℕ) (j : List Line) (x : ℕ) → Shown K j x word → Ages K j x result }
-    ensures small { result < 16777216 }
+    ensures small { result < GENERATIONS }
 {
     let Some(claim) = unpack(word) else {
         unreachable!()

@@ -5,6 +5,7 @@ ghost use Rattle.history.specs.{submits, before_in, Fits};
 ghost use Rattle.steps.specs.{cells_in, IsFree};
 ghost use Rattle.steps.specs.declared.view.Role.{Role};
 ghost use Rattle.work.specs.{IsOf, seen_of, Took};
+ghost use Rattle.board.specs.declared.queue.TheConstants.{LAST_GENERATION};
 ghost use Rattle.board.specs.{Goes, next_of, IsReady, steps_for, steps_in, submits_of, nth, LinkedAreReaped, RefusesBatch, RefusesEntry};
 
 use crate::batch::{are_fit, fits_length};
@@ -91,7 +92,7 @@ impl Board {
     #[inline(always)]
     fn submit_next(&self, submitter: &mut Submitter, submission: Submission) -> Req
         requires of { IsOf self.now submitter.old }
-        requires free { (ring : ℕ) → submitter.old.view.role ≡ Role.Submitter ring → IsFree self.now.layout.cells (seen_of submitter.old) (next_of submitter.old ring) × ((next_of submitter.old ring).k / cells_in self.now.layout.cells ring < 16777215) }
+        requires free { (ring : ℕ) → submitter.old.view.role ≡ Role.Submitter ring → IsFree self.now.layout.cells (seen_of submitter.old) (next_of submitter.old ring) × ((next_of submitter.old ring).k / cells_in self.now.layout.cells ring < LAST_GENERATION) }
         requires fits { Fits submission.sqe submission.buffer.items }
         ensures role { submitter.old.view.role ≡ Role.Submitter result.ring }
         ensures next { (ring : ℕ) → submitter.old.view.role ≡ Role.Submitter ring → (submits (seen_of submitter.new) ring ≡ submits (seen_of submitter.old) ring + 1) × (before_in (seen_of submitter.new) (nth ring (submits (seen_of submitter.old) ring + 1)) ≡ Some (record { entry = submission.sqe; bytes = submission.buffer.items; last = submission.last })) }

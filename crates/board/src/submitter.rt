@@ -1,5 +1,6 @@
 //! A submitter's pass.
 ghost use Rattle.std.specs.Prelude.{◌≡◌, ℕ, ◌+◌, ◌*◌, ◌/◌, ◌<◌, ◌≤◌, Bool, List, [], ◌∷◌, length, IfOk, IfErr};
+ghost use Rattle.claim.specs.declared.word.TheConstants.{GENERATIONS};
 ghost use Rattle.claim.specs.declared.tag.Tag.TheVariants.{Done};
 ghost use Rattle.history.specs.declared.req.Req.{Req};
 ghost use Rattle.history.specs.declared.event.Event.TheVariants.{Submit, Reap};
@@ -10,6 +11,7 @@ ghost use Rattle.steps.specs.declared.view.Role.{Role};
 ghost use Rattle.steps.specs.declared.view.Role.TheVariants.{Lending};
 ghost use Rattle.steps.specs.{IsFree, claim_at, ring_of, place_of, request_at, cells_in, total, facts_at, word_of, cause_bits, IsSubmission, words_of, notes_of, words_in, Looks, Shown, IsStep, IsTwoSteps, AreSteps, ExtendsTwice, ExtendsNoted, IsDone};
 ghost use Rattle.work.specs.Passes.{pass_of, seen_of, CanReach};
+ghost use Rattle.board.specs.declared.queue.TheConstants.{LAST_GENERATION};
 ghost use Rattle.board.specs.{next_of, IsSubmitterSeat, IsNextCell};
 ghost use Rattle.board.specs.Queues.{AreFree, LinkedAreReaped, RefusesRoom, Watched};
 
@@ -71,7 +73,7 @@ impl Submitter {
         ensures role { self.now.view.role ≡ Role.Submitter result.ring }
         ensures next { result ≡ next_of self.now result.ring }
         ensures there { result.ring < length self.now.view.layout.cells }
-        ensures few { result.k ≤ 16777215 * cells_in self.now.view.layout.cells result.ring }
+        ensures few { result.k ≤ LAST_GENERATION * cells_in self.now.view.layout.cells result.ring }
     {
         Req {
             ring: self.queue.ring,
@@ -107,7 +109,7 @@ impl Submitter {
         ensures there { (ring : ℕ) → self.old.view.role ≡ Role.Submitter ring → ring < length self.old.view.layout.cells }
         ensures looks { (n : ℕ) × ((ring : ℕ) → self.old.view.role ≡ Role.Submitter ring → n ≤ cells_in grid.now ring + 1) × Watched n self.old.view self.new.view × IfOk result (λ _. (ring : ℕ) → self.old.view.role ≡ Role.Submitter ring → LinkedAreReaped (seen_of self.old) ring → n ≡ 0) }
         ensures free { IfOk result (λ _. (ring : ℕ) → self.old.view.role ≡ Role.Submitter ring → AreFree grid.now self.new.view ring (submits (seen_of self.old) ring) count) }
-        ensures fresh { IfOk result (λ _. (ring : ℕ) → self.old.view.role ≡ Role.Submitter ring → (i : ℕ) → i < count → (submits (seen_of self.old) ring + i) / cells_in grid.now ring < 16777215) }
+        ensures fresh { IfOk result (λ _. (ring : ℕ) → self.old.view.role ≡ Role.Submitter ring → (i : ℕ) → i < count → (submits (seen_of self.old) ring + i) / cells_in grid.now ring < LAST_GENERATION) }
         ensures refused { IfErr result (λ e. (ring : ℕ) → self.old.view.role ≡ Role.Submitter ring → RefusesRoom grid.now ring (submits (seen_of self.old) ring) count self.old self.new e) }
     {
         queue::room(words, &mut self.seat, &mut self.queue, grid, count)
@@ -118,7 +120,7 @@ impl Submitter {
     pub(crate) fn submit(&mut self, words: &Words, cell: Cell, submission: Submission)
         requires reach { CanReach words.now.table_id self.old cell.index }
         requires parts { 0 < self.old.view.parts }
-        requires small { cell.generation < 16777215 }
+        requires small { cell.generation < LAST_GENERATION }
         requires next { IsNextCell self.old cell.index cell.number cell.generation }
         requires free { IsFree self.old.view.layout.cells (seen_of self.old) (request_at self.old.view.layout.cells cell.index cell.generation) }
         requires buffer { FitsEntry submission.sqe submission.buffer.items }
@@ -149,11 +151,11 @@ impl Submitter {
     ) -> (u64, Vec<u8>)
         requires reach { CanReach words.now.table_id self.old cell.index }
         requires parts { 0 < self.old.view.parts }
-        requires small { cell.generation + 1 < 16777216 }
+        requires small { cell.generation + 1 < GENERATIONS }
         requires number { cell.number ≡ place_of self.old.view.layout.cells cell.index }
         requires mine { self.old.view.role ≡ Role.Submitter (ring_of self.old.view.layout.cells cell.index) }
         requires done { IsDone self.old.view.seen (request_at self.old.view.layout.cells cell.index cell.generation) cell.generation done }
-        requires failed { (c : Cause) (f : Bool) (g p : ℕ) → g < 16777216 → p < 4294967296 → done ≡ word_of Done (cause_bits c f) g p → failed ≡ f }
+        requires failed { (c : Cause) (f : Bool) (g p : ℕ) → g < GENERATIONS → p < 4294967296 → done ≡ word_of Done (cause_bits c f) g p → failed ≡ f }
         requires shown { Shown self.old.view.layout.cells self.old.view.seen cell.index done }
         ensures table { self.new.table ≡ self.old.table }
         ensures reaps { let r : Req = request_at self.old.view.layout.cells cell.index cell.generation in (outcome : ℕ) × ExtendsTwice self.old.view (Lent r (facts_at cell.index) outcome) (Lending r) (Did (Reap r)) (Role.Submitter r.ring) self.new.view }

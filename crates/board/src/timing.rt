@@ -2,7 +2,7 @@
 ghost use Rattle.std.specs.Prelude.{◌≡◌, ◌⊎◌, ◌+◌, ◌-◌, ◌*◌, ◌≤◌, ℕ, true, false, [], ◌∷◌, length, IfOk, IfErr};
 ghost use Rattle.history.specs.declared.event.Event.TheVariants.{Tick};
 ghost use Rattle.history.specs.declared.req.Req.{Req as Request};
-ghost use Rattle.history.specs.{IsLinkTimeout, IsTarget, is_timeout, previous, submits, IsOf as IsOfKind};
+ghost use Rattle.history.specs.{IsLinkTimeout, IsTarget, is_timeout, previous, submits, IsPlacedAs};
 ghost use Rattle.steps.specs.{cells_in, freed};
 ghost use Rattle.work.specs.{IsOf, seen_of, Took};
 ghost use Rattle.board.specs.declared.poller.Arming.TheVariants.{Armed, NotHeld, NotTimer, Shut};
@@ -54,7 +54,7 @@ impl Board {
         requires { IsOf self.now poller.old }
         ensures goes { Goes self.now poller.old (expired_by result req) poller.new }
         ensures expired { result ≡ Expired → HasExpired (seen_of poller.new) req }
-        ensures early { result ≡ Early → IsEarly (seen_of poller.new) req × IsOfKind (seen_of poller.new) req is_timeout true × Stepped self.now.layout.cells req poller.old poller.new }
+        ensures early { result ≡ Early → IsEarly (seen_of poller.new) req × IsPlacedAs (seen_of poller.new) req is_timeout true × Stepped self.now.layout.cells req poller.old poller.new }
         ensures not_armed { result ≡ NotArmed → IsNoneToExpire (seen_of poller.new) req × ((length self.now.layout.cells ≤ req.ring) ⊎ Stepped self.now.layout.cells req poller.old poller.new) }
         ensures steps { Paid poller.old.view poller.new.view 0 2 }
         ensures alone { (q : Request) → freed poller.new.view.seen q ≡ freed poller.old.view.seen q }
@@ -131,7 +131,7 @@ impl Board {
         ensures took { result ≡ Polled.Took → HasRung may_fire req poller.new }
         ensures missed { result ≡ Polled.Missed → HasRung may_fire req poller.new }
         ensures settled { result ≡ Polled.Settled → HasSettled (seen_of poller.new) req }
-        ensures early { result ≡ Polled.Early → IsEarly (seen_of poller.new) req × IsOfKind (seen_of poller.new) req is_timeout true × IsUncounted (seen_of poller.new) req × Stepped self.now.layout.cells req poller.old poller.new }
+        ensures early { result ≡ Polled.Early → IsEarly (seen_of poller.new) req × IsPlacedAs (seen_of poller.new) req is_timeout true × IsUncounted (seen_of poller.new) req × Stepped self.now.layout.cells req poller.old poller.new }
         ensures fewer { result ≡ Polled.Fewer → HasFewer (seen_of poller.old) req × IsEarly (seen_of poller.old) req }
         ensures target_open { result ≡ Polled.TargetOpen → IsTargetOpen self.now.layout.cells req poller.old poller.new × IsEarly (seen_of poller.new) req }
         ensures due { result ≡ Polled.Due → (may_fire ≡ false) × IsTargetOpen self.now.layout.cells req poller.old poller.new × IsDueLinked (seen_of poller.new) req }

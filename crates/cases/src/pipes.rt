@@ -64,7 +64,7 @@ fn printed_of_call(pipe: &mut Pipe, kind: &str, words: &mut Words<'_>) -> Printe
             words.end()?;
             debugged(alloc, &pipe.close_end(end))
         }
-        "shut" => debugged(alloc, &pipe.is_shut(end_of(words))),
+        "shut" => debugged(alloc, &pipe.is_closed(end_of(words))),
         "poll" => debugged(alloc, &pipe.poll_mask(end_of(words), words.number())),
         _ => printed_of_bytes(pipe, kind, words),
     }

@@ -4,7 +4,7 @@ use crate::printed::{Digits, Printed, Slip, debugged, said, shown};
 use crate::words::Words;
 use bitflags::Flags;
 use claim::{Cause, ClaimWord, GENERATIONS, Tag, pack, unpack};
-use entry::{Cqe, Offset, Op, Row, Sqe, SqeFlags, fails};
+use entry::{Cqe, Fields, Offset, Op, Sqe, SqeFlags, fails};
 use std::alloc::{AllocError, Global};
 
 /// What is printed of a value by the words after its kind.
@@ -46,8 +46,8 @@ pub fn printed(kind: &str, words: &mut Words<'_>) -> Printed {
 }
 
 /// A row by its columns.
-fn row_of(words: &mut Words<'_>) -> Row {
-    Row {
+fn row_of(words: &mut Words<'_>) -> Fields {
+    Fields {
         opcode: words.number(),
         fd: words.number(),
         off: words.number(),

@@ -1,11 +1,11 @@
 -- The bytes of an entry: written piece by piece, read back, and written back.
 use Rattle.byteorder.specs.Numbers.{little_from-lt, little_number-reads_back}
 use Rattle.entry.specs.Text.{layout, number_at}
-use Rattle.entry.proofs.Common.{FitsSigned, List, Row, [], ap, arith, cast_signed, cast_unsigned, drop, drop-drop, drop_all, get_or-drop, is_plain, length, length-drop, lit<, little_bytes, little_number, negsuc, of_z-to_z, pos, put, refl, replicate, row_at, slice_index, sym, to_z-of_z, true, w32, ℕ, ℤ, ◌++◌, ◌+◌, ◌<◌, ◌^◌, ◌∙◌, ◌∷◌, ◌≡◌, ◌≤◌}
+use Rattle.entry.proofs.Common.{FitsSigned, List, Fields, [], ap, arith, cast_signed, cast_unsigned, drop, drop-drop, drop_all, get_or-drop, is_plain, length, length-drop, lit<, little_bytes, little_number, negsuc, of_z-to_z, pos, put, refl, replicate, row_at, slice_index, sym, to_z-of_z, true, w32, ℕ, ℤ, ◌++◌, ◌+◌, ◌<◌, ◌^◌, ◌∙◌, ◌∷◌, ◌≡◌, ◌≤◌}
 use Rattle.entry.proofs.NumberBytes.{IsBytes, bytes_of-number}
 
 -- the fields are those of their Rust types
-pub record InTypes (r : Row) (f u : ℕ) : Type 0 where
+pub record InTypes (r : Fields) (f u : ℕ) : Type 0 where
   pub opcode : r.opcode < 2 ^ 8
   pub fd : FitsSigned w32 r.fd
   pub off : r.off < 2 ^ 64
@@ -20,7 +20,7 @@ IsBytes-drop : (n : ℕ) (bytes : List ℕ) → IsBytes bytes → IsBytes (drop 
 IsBytes-drop n bytes are i = let same = get_or-drop n bytes i 0 in omega (arith, same, are (n + i))
 
 -- the fields written one after the other
-pub layout-written : (r : Row) (flags user_data : ℕ) (fd off addr len word user all : List ℕ)
+pub layout-written : (r : Fields) (flags user_data : ℕ) (fd off addr len word user all : List ℕ)
     → fd ≡ put 4 4 (little_bytes 4 (cast_unsigned w32 r.fd)) (r.opcode ∷ flags ∷ replicate 62 0)
     → off ≡ put 8 8 (little_bytes 8 r.off) fd
     → addr ≡ put 16 8 (little_bytes 8 r.addr) off
@@ -74,7 +74,7 @@ unfolding number_at
 number_at-layout at n x bytes rest is fits = ap (little_number n) is ∙ little_number-reads_back n x rest fits
 
 -- written, and read again
-pub record Reads (r : Row) (f u : ℕ) (bytes : List ℕ) : Type 0 where
+pub record Reads (r : Fields) (f u : ℕ) (bytes : List ℕ) : Type 0 where
   pub row : row_at bytes ≡ r
   pub flags : slice_index bytes 1 ≡ f
   pub user_data : number_at 32 8 bytes ≡ u
@@ -84,7 +84,7 @@ pub cast_unsigned-lt : (z : ℤ) → FitsSigned w32 z → cast_unsigned w32 z < 
 cast_unsigned-lt (pos n) fits = omega arith
 cast_unsigned-lt (negsuc n) fits = omega arith
 
-row_at-is : (bytes : List ℕ) (r : Row) → FitsSigned w32 r.fd → FitsSigned w32 r.splice_fd_in → slice_index bytes 0 ≡ r.opcode → number_at 4 4 bytes ≡ cast_unsigned w32 r.fd
+row_at-is : (bytes : List ℕ) (r : Fields) → FitsSigned w32 r.fd → FitsSigned w32 r.splice_fd_in → slice_index bytes 0 ≡ r.opcode → number_at 4 4 bytes ≡ cast_unsigned w32 r.fd
     → number_at 8 8 bytes ≡ r.off → number_at 16 8 bytes ≡ r.addr → number_at 24 4 bytes ≡ r.len → number_at 28 4 bytes ≡ r.word
     → number_at 44 4 bytes ≡ cast_unsigned w32 r.splice_fd_in → row_at bytes ≡ r
 row_at-is bytes r fd_fits splice_fits opcode fd off addr len word splice_fd_in =
@@ -92,7 +92,7 @@ row_at-is bytes r fd_fits splice_fits opcode fd off addr len word splice_fd_in =
     let spliced : cast_signed w32 (number_at 44 4 bytes) ≡ r.splice_fd_in = ap (cast_signed w32) splice_fd_in ∙ to_z-of_z w32 r.splice_fd_in splice_fits in
     rw (opcode, signed, off, addr, len, word, spliced) refl
 
-pub Reads-layout : (r : Row) (f u : ℕ) → InTypes r f u → Reads r f u (layout r f u)
+pub Reads-layout : (r : Fields) (f u : ℕ) → InTypes r f u → Reads r f u (layout r f u)
 unfolding layout
 Reads-layout r f u fits =
     let bytes = layout r f u in
@@ -115,7 +115,7 @@ Reads-layout r f u fits =
     }
 
 -- two entries with the same bytes are one
-pub layout-injective : (r : Row) (f u : ℕ) (q : Row) (g v : ℕ) → InTypes r f u → InTypes q g v → layout r f u ≡ layout q g v → (r ≡ q) × (f ≡ g) × (u ≡ v)
+pub layout-injective : (r : Fields) (f u : ℕ) (q : Fields) (g v : ℕ) → InTypes r f u → InTypes q g v → layout r f u ≡ layout q g v → (r ≡ q) × (f ≡ g) × (u ≡ v)
 layout-injective r f u q g v a b same =
     let x = Reads-layout r f u a in
     let y = Reads-layout q g v b in

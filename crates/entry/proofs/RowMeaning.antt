@@ -7,7 +7,7 @@ use Rattle.entry.specs.declared.op.Op.TheVariants.{Nop, PollAdd, Timeout, Timeou
 use Rattle.entry.specs.declared.op.Offset.{Offset}
 use Rattle.entry.specs.declared.op.Offset.TheVariants.{Zero, Current}
 use Rattle.entry.specs.{all_word, allowed_flags, etime_word, fits, fits_op, is_i32, is_u64, is_valid, no_fd, place, row, layout, number_at}
-use Rattle.entry.proofs.Common.{Bool, Entry, FitsSigned, IsTrue, List, Row, Says, ap, arith, bit_and, eq-eqb, eqb-true, false, inl, inr, invalid_of, is_plain, length, lit<, lit≤, lt-ltb, nat_lt, negsuc, pos, refl, row_at, slice_index, subst, sym, text, true, w32, ℕ, ℤ, ◌&&◌, ◌<◌, ◌==◌, ◌^◌, ◌↔◌, ◌∙◌, ◌≡◌, ◌≤◌}
+use Rattle.entry.proofs.Common.{Bool, Entry, FitsSigned, IsTrue, List, Fields, Says, ap, arith, bit_and, eq-eqb, eqb-true, false, inl, inr, invalid_of, is_plain, length, lit<, lit≤, lt-ltb, nat_lt, negsuc, pos, refl, row_at, slice_index, subst, sym, text, true, w32, ℕ, ℤ, ◌&&◌, ◌<◌, ◌==◌, ◌^◌, ◌↔◌, ◌∙◌, ◌≡◌, ◌≤◌}
 use Rattle.entry.proofs.NumberBytes.{IsBytes}
 use Rattle.entry.proofs.EntryBytes.{InTypes, Reads, Reads-layout, layout-injective, layout-row_at}
 
@@ -35,7 +35,7 @@ fits-of : (f u : ℕ) (op : Op) → IsTrue (fits_op op) → bit_and f (allowed_f
     → IsTrue (fits (record { user_data = u; flags = f; op = op }))
 fits-of f u op ok flags user_data = both ok (both (eq-eqb _ _ flags) (lt-ltb u 18446744073709551616 user_data))
 
-within : (r : Row) (f u m : ℕ) → r.opcode < 2 ^ 8 → FitsSigned w32 r.fd → r.off < 2 ^ 64 → r.addr < 2 ^ 64 → r.len < 2 ^ 32 → r.word < 2 ^ 32
+within : (r : Fields) (f u m : ℕ) → r.opcode < 2 ^ 8 → FitsSigned w32 r.fd → r.off < 2 ^ 64 → r.addr < 2 ^ 64 → r.len < 2 ^ 32 → r.word < 2 ^ 32
     → FitsSigned w32 r.splice_fd_in → bit_and f m ≡ f → m ≤ 14 → u < 2 ^ 64 → InTypes r f u
 within r f u m opcode fd off addr len word splice_fd_in flags small user_data =
     record { opcode = opcode; fd = fd; off = off; addr = addr; len = len; word = word; splice_fd_in = splice_fd_in; flags = omega (arith, and_le_r f m); user_data = user_data }
@@ -101,7 +101,7 @@ InTypes-fits e ok =
     InTypes-op e.op e.flags e.user_data parts.0 (eqb-true _ _ more.0) (is_u64-lt e.user_data more.1)
 
 -- where the only operation that a row may have is refused, no entry has that row
-pub refused : (r : Row) (f : ℕ) (op : Op) (b : Bool) → (IsTrue b ↔ (IsTrue (fits_op op) × (bit_and f (allowed_flags op) ≡ f) × (row op ≡ r))) → b ≡ false
+pub refused : (r : Fields) (f : ℕ) (op : Op) (b : Bool) → (IsTrue b ↔ (IsTrue (fits_op op) × (bit_and f (allowed_flags op) ≡ f) × (row op ≡ r))) → b ≡ false
     → ((o : Op) → IsTrue (fits_op o) → row o ≡ r → op ≡ o)
     → (e : Entry) → IsTrue (fits e) → r ≡ row e.op → f ≡ e.flags → ⊥
 refused r f op b test not only e ok is flags =
@@ -115,7 +115,7 @@ refused r f op b test not only e ok is flags =
     false≢true (sym not ∙ yes)
 
 -- a row that no entry has says Invalid
-pub Says-none : (r : Row) (f u : ℕ) → InTypes r f u → ((e : Entry) → IsTrue (is_valid e.op) → IsTrue (fits e) → r ≡ row e.op → f ≡ e.flags → ⊥)
+pub Says-none : (r : Fields) (f u : ℕ) → InTypes r f u → ((e : Entry) → IsTrue (is_valid e.op) → IsTrue (fits e) → r ≡ row e.op → f ≡ e.flags → ⊥)
     → Says (layout r f u) (record { user_data = u; flags = bit_and f 12; op = Invalid })
 Says-none r f u types none =
     let reads = Reads-layout r f u types in
@@ -126,24 +126,24 @@ Says-none r f u types none =
       rw (reads.user_data, reads.flags) refl,
     )
 
-Says-valid : (r : Row) (f u : ℕ) (op : Op) → IsTrue (is_valid op) → InTypes r f u → IsTrue (fits_op op) → bit_and f (allowed_flags op) ≡ f → row op ≡ r
+Says-valid : (r : Fields) (f u : ℕ) (op : Op) → IsTrue (is_valid op) → InTypes r f u → IsTrue (fits_op op) → bit_and f (allowed_flags op) ≡ f → row op ≡ r
     → Says (layout r f u) (record { user_data = u; flags = f; op = op })
 Says-valid r f u op valid types ok flags is =
-    inl (record { valid = valid; fits = fits-of f u op ok flags types.user_data; text = ap (λ (q : Row). layout q f u) (sym is) })
+    inl (record { valid = valid; fits = fits-of f u op ok flags types.user_data; text = ap (λ (q : Fields). layout q f u) (sym is) })
 
 -- the row of an operation says that operation
-pub Says-row : (r : Row) (f u : ℕ) (op : Op) → InTypes r f u → IsTrue (fits_op op) → bit_and f (allowed_flags op) ≡ f → row op ≡ r
+pub Says-row : (r : Fields) (f u : ℕ) (op : Op) → InTypes r f u → IsTrue (fits_op op) → bit_and f (allowed_flags op) ≡ f → row op ≡ r
     → Says (layout r f u) (record { user_data = u; flags = f; op = op })
 Says-row r f u Invalid types ok flags is =
     let none = Says-none r f u types (λ e valid fit same _.
     let below = opcode_below e.op valid in
-    let is_same = ap (λ (q : Row). q.opcode) (is ∙ same) in
+    let is_same = ap (λ (q : Fields). q.opcode) (is ∙ same) in
     absurd (omega arith)) in
     rw flags at none
 Says-row r f u op types ok flags is = Says-valid r f u op refl types ok flags is
 
 -- bytes whose other fields are zero say what their row says
-pub Says-plain : (bytes : List ℕ) (r : Row) (u : ℕ) (e : Entry) → length bytes ≡ 64 → IsBytes bytes → is_plain bytes ≡ true
+pub Says-plain : (bytes : List ℕ) (r : Fields) (u : ℕ) (e : Entry) → length bytes ≡ 64 → IsBytes bytes → is_plain bytes ≡ true
     → r ≡ row_at bytes → u ≡ number_at 32 8 bytes → Says (layout r (slice_index bytes 1) u) e → Says bytes e
 Says-plain bytes r u e len are plain row user_data says =
     let one = both_true (number_at 2 2 bytes == 0) _ plain in
@@ -151,7 +151,7 @@ Says-plain bytes r u e len are plain row user_data says =
     let three = both_true (number_at 48 8 bytes == 0) _ two.1 in
     let whole = layout-row_at bytes len are (eqb-true _ _ one.0) (eqb-true _ _ two.0) (eqb-true _ _ three.0) (eqb-true _ _ three.1) in
     let same : layout r (slice_index bytes 1) u ≡ bytes =
-    ap (λ (q : Row). layout q (slice_index bytes 1) u) row ∙ ap (layout (row_at bytes) (slice_index bytes 1)) user_data ∙ whole in
+    ap (λ (q : Fields). layout q (slice_index bytes 1) u) row ∙ ap (layout (row_at bytes) (slice_index bytes 1)) user_data ∙ whole in
     let P : List ℕ → Type 0 = λ b. Says b e in
     subst P same says
 

@@ -4,7 +4,7 @@ use Rattle.entry.specs.declared.op.Op.{Op}
 use Rattle.entry.specs.declared.op.Op.TheVariants.{Nop, PollAdd, Timeout, TimeoutRemove, AsyncCancel, LinkTimeout, Close, Read, Write, Splice, Invalid}
 use Rattle.entry.specs.declared.op.Offset.{Offset}
 use Rattle.entry.specs.declared.op.Offset.TheVariants.{Zero, Current}
-use Rattle.entry.specs.declared.row.Row.{Row}
+use Rattle.entry.specs.declared.row.Fields.{Fields}
 use Rattle.entry.specs.Entry.{Entry}
 
 -- the offset that means the current position is 2^64 - 1
@@ -27,7 +27,7 @@ all_word true = 1
 all_word false = 0
 
 -- a row of the table for each operation, and what an Invalid entry is written as (this profile, after the opcodes of io_uring_enter(2))
-abbrev pub row : Op → Row
+abbrev pub row : Op → Fields
 row Nop = record { opcode = 0; fd = no_fd; off = 0; addr = 0; len = 0; word = 0; splice_fd_in = pos 0 }
 row (PollAdd fd mask) = record { opcode = 6; fd = fd; off = 0; addr = 0; len = 0; word = mask; splice_fd_in = pos 0 }
 row (Timeout ticks etime_success count) = record { opcode = 11; fd = no_fd; off = count; addr = ticks; len = 1; word = etime_word etime_success; splice_fd_in = pos 0 }

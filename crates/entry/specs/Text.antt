@@ -5,13 +5,13 @@ use Rattle.std.specs.Int.{w32, cast_signed, cast_unsigned}
 use Rattle.byteorder.specs.Endian.{little_bytes, little_number}
 use Rattle.entry.specs.declared.cqe.Cqe.{Cqe}
 use Rattle.entry.specs.declared.op.Op.TheVariants.{Invalid}
-use Rattle.entry.specs.declared.row.Row.{Row}
+use Rattle.entry.specs.declared.row.Fields.{Fields}
 use Rattle.entry.specs.Entry.{Entry}
 use Rattle.entry.specs.Table.{fits, is_valid, row}
 
 -- the fields of an entry in their order: opcode, flags, ioprio, fd, off, addr, len, the opcode's flags word, user_data,
 -- buf_index, personality, splice_fd_in, and 16 bytes that are zero (io_uring_enter(2), struct io_uring_sqe)
-unfoldable pub layout : Row → ℕ → ℕ → List ℕ
+unfoldable pub layout : Fields → ℕ → ℕ → List ℕ
 layout r flags user_data = concat (
     (r.opcode ∷ flags ∷ [])
     ∷ little_bytes 2 0
@@ -40,7 +40,7 @@ abbrev pub put : ℕ → ℕ → List ℕ → List ℕ → List ℕ
 put place n part bytes = take place bytes ++ (part ++ drop (place + n) bytes)
 
 -- the columns of the table as they stand in the bytes
-abbrev pub row_at : List ℕ → Row
+abbrev pub row_at : List ℕ → Fields
 row_at bytes = record {
   opcode = slice_index bytes 0;
   fd = cast_signed w32 (number_at 4 4 bytes);

@@ -4,15 +4,15 @@ ghost use Rattle.entry.specs.Entry.{Entry};
 ghost use Rattle.entry.specs.{fits, is_valid, Says, is_plain, layout, row_at, text};
 
 use crate::field::{i32_at, put_i32, put_u32, put_u64, u16_at, u32_at, u64_at};
-use crate::row::Row;
+use crate::row::Fields;
 use crate::sqe::Sqe;
 use bitflags::Flags;
 
 /// The columns of the table of opcodes, as they stand in the bytes.
-fn row_at(bytes: &[u8; 64]) -> Row
+fn row_at(bytes: &[u8; 64]) -> Fields
     ensures { result ≡ row_at bytes.now }
 {
-    Row {
+    Fields {
         opcode: bytes[0],
         fd: i32_at(bytes, 4),
         off: u64_at(bytes, 8),
@@ -34,7 +34,7 @@ fn is_plain(bytes: &[u8; 64]) -> bool
 }
 
 /// The bytes of a row with these flags and this user_data.
-fn layout(row: &Row, flags: u8, user_data: u64) -> [u8; 64]
+fn layout(row: &Fields, flags: u8, user_data: u64) -> [u8; 64]
     ensures { result ≡ layout row.now flags user_data }
 {
     let mut bytes = [0; 64];

@@ -15,5 +15,5 @@ pub mod table;
 pub use cqe::Cqe;
 pub use flags::SqeFlags;
 pub use op::{Offset, Op};
-pub use row::Row;
+pub use row::Fields;
 pub use sqe::{Sqe, fails};

@@ -8,7 +8,7 @@ use crate::{by_flag, by_opcode};
 /// The columns of the table of opcodes: the fields by which operations differ. All are as struct io_uring_sqe has
 /// them, `word` being the opcode's own flags.
 #[derive(Clone, Copy, PartialEq, Eq, Debug)]
-pub struct Row {
+pub struct Fields {
     pub opcode: u8,
     pub fd: i32,
     pub off: u64,
@@ -39,7 +39,7 @@ const INVALID: u8 = 255;
 macro_rules! row_of {
     (($op:expr) $($text:literal $name:ident { $($field:ident),* } = $code:literal: [$($fd:tt)*] [$($off:tt)*] [$($addr:tt)*] [$($len:tt)*] [$($word:tt)*] [$($splice_fd_in:tt)*] $flags:tt $fails:tt;)*) => {
         match $op {
-            $(Op::$name { $($field),* } => Row {
+            $(Op::$name { $($field),* } => Fields {
                 opcode: $code,
                 fd: column_of!($($fd)*),
                 off: column_of!($($off)*),
@@ -48,7 +48,7 @@ macro_rules! row_of {
                 word: column_of!($($word)*),
                 splice_fd_in: column_of!($($splice_fd_in)*),
             },)*
-            Op::Invalid => Row { opcode: INVALID, fd: 0, off: 0, addr: 0, len: 0, word: 0, splice_fd_in: 0 },
+            Op::Invalid => Fields { opcode: INVALID, fd: 0, off: 0, addr: 0, len: 0, word: 0, splice_fd_in: 0 },
         }
     };
 }
@@ -152,7 +152,7 @@ impl Offset {
 impl Op {
     /// The operation's row of the table of opcodes, with its values in the free places.
     #[inline(always)]
-    pub fn row(self) -> Row
+    pub fn row(self) -> Fields
         ensures { result ≡ table_row self }
     {
         by_opcode!(row_of!(self))
@@ -176,14 +176,14 @@ impl Op {
 
     /// Whether an entry of this operation may have this row and these flags.
     #[inline(always)]
-    pub fn is_written_as(self, row: &Row, flags: u8) -> bool
+    pub fn is_written_as(self, row: &Fields, flags: u8) -> bool
         ensures { IsTrue result ↔ (IsTrue (fits_op self) × (bit_and flags (allowed_flags self) ≡ flags) × (table_row self ≡ row.now)) }
     {
         self.fits() && flags & self.allowed_flags() == flags && self.row() == *row
     }
 }
 
-impl Row {
+impl Fields {
     /// The operation of this opcode with the values that stand in its free places: the only one whose row this may be.
     /// Invalid where no row of the table has this opcode.
     #[inline(always)]

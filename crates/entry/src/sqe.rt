@@ -6,7 +6,7 @@ ghost use Rattle.entry.specs.{bits_of, fits, is_valid, row as table_row, Says, l
 use crate::by_opcode;
 use crate::flags::SqeFlags;
 use crate::op::Op;
-use crate::row::Row;
+use crate::row::Fields;
 use bitflags::Flags;
 use std::marker::Model;
 
@@ -82,7 +82,7 @@ impl Sqe {
     }
 
     /// The entry's row of the table of opcodes, with its values.
-    pub fn row(&self) -> Row
+    pub fn row(&self) -> Fields
         ensures row { result ≡ table_row self.now.op }
         ensures fits { IsTrue (fits self.now) }
     {
@@ -93,7 +93,7 @@ impl Sqe {
     /// The entry that a row with these flags and this user_data stands for: Invalid where the values are not those that
     /// the table allows.
     #[inline(always)]
-    pub fn of_row(row: Row, flags: u8, user_data: u64) -> Sqe
+    pub fn of_row(row: Fields, flags: u8, user_data: u64) -> Sqe
         ensures says { Says (layout row flags user_data) result }
         ensures fits { IsTrue (fits result) }
         ensures user_data { result.user_data ≡ user_data }

@@ -1,6 +1,6 @@
 -- What an entry more, and a cell less, make of a row.
 use Rattle.std.specs.Option.{option_map}
-use Rattle.gates.proofs.Common.{Behind, Bool, Cell, IsChainStart, IsFirst, IsSound, IsToldBy, Kept, Linked, List, None, Option, Slot, Some, Stands, [], added, ap, arith, behind, bool_cases, cases_lt, drop, drop-append-le, drop-drop, false, inl, inr, is_draining, is_pending, length, length-append, length-drop, length-map, map, map-append, next_in, next_of, passes, refl, slice_get, slice_get-map, slice_get_within, slot_of, starting, subst, suc, sym, test_at, true, true≢false, without_first, ℕ, ⊎_elim, ◌&&◌, ◌++◌, ◌+◌, ◌-◌, ◌<◌, ◌∙◌, ◌∷◌, ◌≡◌, ◌≤◌, ◌⊎◌}
+use Rattle.gates.proofs.Common.{Behind, Bool, Cell, IsChainStart, IsFirst, IsSound, IsToldBy, Kept, Linked, List, None, Option, Slot, Some, Stands, [], added, ap, arith, behind, bool_cases, cases_lt, drop, drop-append-le, drop-drop, false, inl, inr, is_draining, is_pending, length, length-append, length-drop, length-map, map, map-append, next_in, behind_next, passes, refl, slice_get, slice_get-map, slice_get_within, slot_of, starting, subst, suc, sym, test_at, true, true≢false, without_first, ℕ, ⊎_elim, ◌&&◌, ◌++◌, ◌+◌, ◌-◌, ◌<◌, ◌∙◌, ◌∷◌, ◌≡◌, ◌≤◌, ◌⊎◌}
 use Rattle.gates.proofs.Lists.{get_there, get_drop, get_before, get_last, one_some, slot_there}
 use Rattle.gates.proofs.CellReplies.{behind_same_before}
 use Rattle.gates.proofs.Standing.{slot_exact, behind_exact}
@@ -37,7 +37,7 @@ sound_dropped r s pos = record {
   few = let a = length-drop 1 r.cells in let b = s.few in let o = s.oldest.within in let m = length_mapped r.cells in omega arith;
   linked = λ j c d x y. s.linked (suc j) c d (sym (get_drop 1 r.cells j ∙ ap (slice_get r.cells) (let e : 1 + j ≡ suc j = omega arith in e)) ∙ x)
       (sym (get_drop 1 r.cells (suc j) ∙ ap (slice_get r.cells) (let e : 1 + suc j ≡ suc (suc j) = omega arith in e)) ∙ y)
-      ∙ ap (λ z. next_of z (slot_of c) c.behind) (let e : r.lost + suc j ≡ r.lost + 1 + j = omega arith in e);
+      ∙ ap (λ z. behind_next z (slot_of c) c.behind) (let e : r.lost + suc j ≡ r.lost + 1 + j = omega arith in e);
   oldest = first_dropped is_pending r.cells r.oldest pos s.oldest;
   drain = first_dropped is_draining r.cells r.drain (drain_after r s pos) s.drain;
 }
@@ -89,7 +89,7 @@ linked_pushed n cs v told linked j c d x y =
     (λ (a : suc j < length cs). linked j c d x' (sym (get_before cs v (suc j) a) ∙ y))
     (λ (a : length cs ≤ suc j). let e : suc j ≡ length cs = omega arith in let e' : length cs - 1 ≡ j = omega arith in
     let vd : v ≡ d = one_some v d (sym (ap (slice_get (cs ++ v ∷ [])) e ∙ get_last cs v) ∙ y) in
-    sym (ap (λ (z : Cell). z.behind) vd) ∙ told c (ap (slice_get cs) e' ∙ x') ∙ ap (λ z. next_of (n + z) (slot_of c) c.behind) e')
+    sym (ap (λ (z : Cell). z.behind) vd) ∙ told c (ap (slice_get cs) e' ∙ x') ∙ ap (λ z. behind_next (n + z) (slot_of c) c.behind) e')
     (cases_lt (suc j) (length cs))
 
 -- the last cell still says it to the next entry where the first cell is gone
@@ -98,7 +98,7 @@ told_dropped n cs b told c x =
     let l = length-drop 1 cs in let lt = slice_get_within (drop 1 cs) (length (drop 1 cs) - 1) c x in
     let e : 1 + (length (drop 1 cs) - 1) ≡ length cs - 1 = omega arith in
     told c (sym (get_drop 1 cs (length (drop 1 cs) - 1) ∙ ap (slice_get cs) e) ∙ x)
-    ∙ ap (λ z. next_of z (slot_of c) c.behind) (let u : n + (length cs - 1) ≡ n + 1 + (length (drop 1 cs) - 1) = omega arith in u)
+    ∙ ap (λ z. behind_next z (slot_of c) c.behind) (let u : n + (length cs - 1) ≡ n + 1 + (length (drop 1 cs) - 1) = omega arith in u)
 
 -- ---- the list that a row stands for
 
@@ -106,7 +106,7 @@ told_dropped n cs b told c x =
 pub next_told : (xs : List Slot) (r : Kept) → IsSound r → Stands xs r → (b : Behind) → IsToldBy r.lost r.cells b → (length r.cells ≡ 0 → b ≡ starting r.lost) → b ≡ behind xs (added r)
 next_told xs r sound stands b told none = ⊎_elim
     (λ (a : 0 < length r.cells). let c = get_there r.cells (length r.cells - 1) (omega arith) in
-    told c.0 c.1 ∙ ap (next_of (r.lost + (length r.cells - 1)) (slot_of c.0)) (behind_exact xs r sound stands (length r.cells - 1) c.0 c.1)
+    told c.0 c.1 ∙ ap (behind_next (r.lost + (length r.cells - 1)) (slot_of c.0)) (behind_exact xs r sound stands (length r.cells - 1) c.0 c.1)
     ∙ sym (ap (λ z. next_in (r.lost + (length r.cells - 1)) z (behind xs (r.lost + (length r.cells - 1)))) (slot_exact xs r sound stands (length r.cells - 1) c.0 c.1))
     ∙ ap (behind xs) (let u : suc (r.lost + (length r.cells - 1)) ≡ r.lost + length r.cells = omega arith in u))
     (λ (a : length r.cells ≤ 0). let e : length r.cells ≡ 0 = omega arith in let p = sound.cell in

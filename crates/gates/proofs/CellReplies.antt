@@ -1,5 +1,5 @@
 -- What a reply makes of the cells, and of the list that they stand for.
-use Rattle.gates.proofs.Common.{Behind, Bool, Cell, Linked, LinkedAt, List, Slot, Some, Stands, [], answered, ap, arith, behind, bool_cases, cond, drop, drop-set-add, eqb-true, false, inl, inr, is_pending, is_severing, joins_of, length, length-map, length-set, map, map-set, next_in, next_of, none-some, not, passes, refl, set, slice_get, slot_of, subst, suc, sym, test_at, true, waiting_in, with_reply, zero, ℕ, ⊎_elim, ◌&&◌, ◌++◌, ◌+◌, ◌<◌, ◌==◌, ◌||◌, ◌∙◌, ◌∷◌, ◌≡◌, ◌≢◌, ◌≤◌}
+use Rattle.gates.proofs.Common.{Behind, Bool, Cell, Linked, LinkedAt, List, Slot, Some, Stands, [], answered, ap, arith, behind, bool_cases, cond, drop, drop-set-add, eqb-true, false, inl, inr, is_pending, is_severing, joins_of, length, length-map, length-set, map, map-set, next_in, behind_next, none-some, not, passes, refl, set, slice_get, slot_of, subst, suc, sym, test_at, true, waiting_in, with_reply, zero, ℕ, ⊎_elim, ◌&&◌, ◌++◌, ◌+◌, ◌<◌, ◌==◌, ◌||◌, ◌∙◌, ◌∷◌, ◌≡◌, ◌≢◌, ◌≤◌}
 use Rattle.gates.proofs.Lists.{get_last, get_set_same, get_set_other, get_drop, get_there, one_some, slot_there}
 use Rattle.gates.proofs.Links.{ne_of}
 
@@ -31,7 +31,7 @@ behind_same_before xs ys (suc n) same =
     ap (λ z. next_in n z (behind xs n)) (same n (omega arith)) ∙ ap (next_in n (slice_get ys n)) (behind_same_before xs ys n (λ m lt. same m (omega arith)))
 
 -- what an entry that joins nobody makes of the next
-next_alone : (k : ℕ) (s : Slot) (b : Behind) → joins_of s ≡ false → next_of k s b ≡ record { severed = false; held = false; hosted = false; head = k + 1 }
+next_alone : (k : ℕ) (s : Slot) (b : Behind) → joins_of s ≡ false → behind_next k s b ≡ record { severed = false; held = false; hosted = false; head = k + 1 }
 next_alone k s b e = ap (λ (j : Bool). Behind-by j) e where
   Behind-by : Bool → Behind
   Behind-by j = record { severed = j && (is_severing b.hosted s || b.severed); held = j && (is_pending s || b.held); hosted = j && not s.traits.link_timeout; head = cond j b.head (k + 1) }

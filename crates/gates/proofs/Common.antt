@@ -1,7 +1,7 @@
 -- The words of other modules that the proofs of this crate use.
 pub use Rattle.entry.specs.Entry.{Entry, drains, fails, fails_op, links, links_hard}
-pub use Rattle.gates.specs.{HasCell, IsAnswer, IsBar, IsChainStart, IsFirst, IsMember, IsSound, IsToldBy, IsTurn, Kept, Linked, LinkedAt, Stands, Waits, added, answered, asked_by, asked_of, bar_by, begins_after, free_by, held_at, held_of, link_in, nearest_in, numbered, place_by, slot_with, stand_in, stand_ins, target_by, waiting, waiting_in, with_reply, without_first, Slot, behind, hosts_of, is_draining, is_failed, is_pending, is_placed_invalid, is_severing, is_target_timer, is_unanswered, joins_of, next_in, next_of, passes, slot_of, starting, test_at, traits_of}
-pub use Rattle.gates.specs.Shows.{ArePlain, HasNotSevered, HaveGoneOn, IsAsked, IsFree, IsGate, IsLink, IsOfChain, IsOutcome, IsPlainAt, IsTargetOf, Shows, StandsIn, TrailedAt, Trails, TrailsAt, gate_by, linked_in, named_in, nth}
+pub use Rattle.gates.specs.{HasCell, IsAnswer, IsBar, IsChainStart, IsFirst, IsMember, IsSound, IsToldBy, IsTurn, Kept, Linked, LinkedAt, Stands, Waits, added, answered, asked_by, asked_of, bar_by, begins_after, free_by, held_at, held_of, link_in, nearest_in, numbered, place_by, slot_with, stand_in, stand_ins, target_by, waiting, waiting_in, with_reply, without_first, Slot, behind, hosts_of, is_draining, is_failed, is_pending, is_placed_invalid, is_severing, is_target_timer, is_unanswered, joins_of, next_in, behind_next, passes, slot_of, starting, test_at, traits_of}
+pub use Rattle.gates.specs.Shows.{ArePlain, HasNotSevered, HaveGoneOn, IsAsked, HasFreeCell, IsGate, IsLink, IsOfChain, IsOutcome, IsPlainAt, IsTargetOf, Shows, StandsIn, TrailedAt, Trails, TrailsAt, gate_by, linked_in, named_in, nth}
 pub use Rattle.gates.specs.declared.cell.Behind.{Behind}
 pub use Rattle.gates.specs.declared.cell.Cell.{Cell}
 pub use Rattle.gates.specs.declared.traits.Traits.{Traits}

@@ -1,6 +1,6 @@
 -- When the first cell of a full row is free.
 use Rattle.std.specs.Prelude.{nat_lt}
-use Rattle.gates.proofs.Common.{Behind, Bool, Event, IsChainBefore, IsChainStart, IsChained, IsFree, IsOfChain, IsReplied, IsSound, Kept, List, Req, Shows, Slot, Stands, added, and_left, and_right, ap, arith, begins_after, behind, bool_cases, cases_lt, eq-eqb, eqb-true, false, free_by, inl, inr, length, length-map, lt-ltb, ltb-true, nth, phase, refl, slice_get, slot_of, subst, sym, true, true≢false, ℕ, ⊎_elim, ◌&&◌, ◌+◌, ◌-◌, ◌<◌, ◌==◌, ◌||◌, ◌∙◌, ◌≡◌, ◌≢◌, ◌≤◌, ◌⊎◌}
+use Rattle.gates.proofs.Common.{Behind, Bool, Event, IsChainBefore, IsChainStart, IsChained, HasFreeCell, IsOfChain, IsReplied, IsSound, Kept, List, Req, Shows, Slot, Stands, added, and_left, and_right, ap, arith, begins_after, behind, bool_cases, cases_lt, eq-eqb, eqb-true, false, free_by, inl, inr, length, length-map, lt-ltb, ltb-true, nth, phase, refl, slice_get, slot_of, subst, sym, true, true≢false, ℕ, ⊎_elim, ◌&&◌, ◌+◌, ◌-◌, ◌<◌, ◌==◌, ◌||◌, ◌∙◌, ◌≡◌, ◌≢◌, ◌≤◌, ◌⊎◌}
 use Rattle.gates.proofs.Lists.{get_there}
 use Rattle.gates.proofs.Marks.{P, Join}
 use Rattle.gates.proofs.Agreement.{Agrees, Each, shown, shown_fresh}
@@ -74,7 +74,7 @@ module _ (xs : List Slot) (r : Kept) (sound : IsSound r) (stands : Stands xs r) 
   )
 
   module _ (h : List Event) (i : ℕ) (shows : Shows h i xs) where
-    pub free_law : free_by r.lost r.cells r.oldest ≡ true → IsFree h r.size (nth i (added r))
+    pub free_law : free_by r.lost r.cells r.oldest ≡ true → HasFreeCell h r.size (nth i (added r))
     free_law e = inr (subst (λ z. IsReplied (phase h (nth i z)) × ((p : Req) → p.k < added r → IsChained h p (nth i z) → IsReplied (phase h p))) (sym holder) (
       (shown h i xs shows).replied_is r.lost (let p = free_pos e in omega (arith, n, o_within)) (first_done (free_pos e)),
       λ p lt c. ⊎_elim
@@ -84,7 +84,7 @@ module _ (xs : List Slot) (r : Kept) (sound : IsSound r) (stands : Stands xs r) 
           subst (λ z. IsReplied (phase h z)) (sym u) ((shown h i xs shows).replied_is p.k (omega (arith, n)) (chain_done e p.k (omega (arith, n)) j)))) c,
     ))
 
-    pub full_law : free_by r.lost r.cells r.oldest ≡ false → ¬ IsFree h r.size (nth i (added r))
+    pub full_law : free_by r.lost r.cells r.oldest ≡ false → ¬ HasFreeCell h r.size (nth i (added r))
     full_law e f = ⊎_elim (λ a. omega (arith, exact, a)) (λ y. by_oldest (subst (λ z. IsReplied (phase h (nth i z)) × ((p : Req) → p.k < added r → IsChained h p (nth i z) → IsReplied (phase h p))) holder y)) f where
       by_oldest : IsReplied (phase h (nth i r.lost)) × ((p : Req) → p.k < added r → IsChained h p (nth i r.lost) → IsReplied (phase h p)) → ⊥
       by_oldest y = let w = way_joined e in let o : r.oldest < length r.cells = w.0 in
@@ -94,7 +94,7 @@ module _ (xs : List Slot) (r : Kept) (sound : IsSound r) (stands : Stands xs r) 
           (cases_lt 0 r.oldest))
 
 -- where the row has a cell for each of its requests and one more, the next one's is free
-pub room_law : (xs : List Slot) (r : Kept) → IsSound r → Stands xs r → length r.cells < r.size → (h : List Event) (i : ℕ) → Shows h i xs → IsFree h r.size (nth i (added r))
+pub room_law : (xs : List Slot) (r : Kept) → IsSound r → Stands xs r → length r.cells < r.size → (h : List Event) (i : ℕ) → Shows h i xs → HasFreeCell h r.size (nth i (added r))
 room_law xs r sound stands room h i shows = ⊎_elim
     (λ (a : added r < r.size). inl a)
     (λ (a : r.size ≤ added r). let t : ℕ = added r - r.size in let before : t < r.lost = omega arith in inr (

@@ -1,5 +1,5 @@
 -- A plain request after plain ones is open, whoever has replied.
-use Rattle.gates.proofs.Common.{ArePlain, Bool, Entry, Event, IsBefore, IsChainBefore, IsClear, IsPlaced, IsPlainAt, List, Open, Option, Req, Severed, Some, ap, arith, cond, drains, false, gate_of, is_link_timeout_in, joins, nth, previous, submission, subst, sym, true, true≢false, ℕ, ◌-◌, ◌<◌, ◌∙◌, ◌≡◌}
+use Rattle.gates.proofs.Common.{ArePlain, Bool, Entry, Event, IsBefore, IsChainBefore, IsClear, IsPlaced, IsPlainAt, List, Open, Option, Req, Severed, ap, arith, cond, drains, gate_of, is_link_timeout_in, joins, nth, previous, subst, sym, true, true≢false, ℕ, ◌-◌, ◌<◌, ◌∙◌, ◌≡◌}
 use Rattle.gates.proofs.Lists.{one_some}
 
 module _ (h : List Event) (q : Req) (before : ArePlain h q.ring q.k) where

@@ -1,5 +1,5 @@
 -- What the cells of a row say of the list that the row stands for.
-use Rattle.gates.proofs.Common.{Behind, Bool, Cell, IsSound, Kept, List, None, Option, Slot, Some, Stands, and_left, and_right, ap, arith, behind, bool_cases, cases_lt, cond, eq-eqb, eqb-true, false, held_at, held_of, inl, inr, is_draining, is_pending, is_target_timer, joins_of, length, length-map, map, next_in, next_of, none-some, passes, place_by, refl, slice_get, slice_get_within, slot_of, subst, suc, sym, test_at, true, true≢false, zero, ℕ, ⊎_elim, ◌&&◌, ◌+◌, ◌-◌, ◌<◌, ◌==◌, ◌||◌, ◌∙◌, ◌≡◌, ◌≢◌, ◌≤◌, ◌⊎◌}
+use Rattle.gates.proofs.Common.{Behind, Bool, Cell, IsSound, Kept, List, None, Option, Slot, Some, Stands, and_left, and_right, ap, arith, behind, bool_cases, cases_lt, cond, eq-eqb, eqb-true, false, held_at, held_of, inl, inr, is_draining, is_pending, is_target_timer, joins_of, length, length-map, map, next_in, behind_next, none-some, passes, place_by, refl, slice_get, slice_get_within, slot_of, subst, suc, sym, test_at, true, true≢false, zero, ℕ, ⊎_elim, ◌&&◌, ◌+◌, ◌-◌, ◌<◌, ◌==◌, ◌||◌, ◌∙◌, ◌≡◌, ◌≢◌, ◌≤◌, ◌⊎◌}
 use Rattle.gates.proofs.Lists.{get_there, get_drop, slot_there, one_some}
 use Rattle.gates.proofs.Marks.{J, P, W, Join, step_held}
 
@@ -71,7 +71,7 @@ module _ (xs : List Slot) (r : Kept) (sound : IsSound r) (stands : Stands xs r) 
   behind_exact zero c e = stands.front c e ∙ ap (behind xs) (let u : r.lost ≡ r.lost + 0 = omega arith in u)
   behind_exact (suc j) c e =
       let lt = slice_get_within r.cells (suc j) c e in let b = get_there r.cells j (omega arith) in
-      sound.linked j b.0 c b.1 e ∙ ap (next_of (r.lost + j) (slot_of b.0)) (behind_exact j b.0 b.1) ∙ sym (ap (λ z. next_in (r.lost + j) z (behind xs (r.lost + j))) (slot_exact j b.0 b.1))
+      sound.linked j b.0 c b.1 e ∙ ap (behind_next (r.lost + j) (slot_of b.0)) (behind_exact j b.0 b.1) ∙ sym (ap (λ z. next_in (r.lost + j) z (behind xs (r.lost + j))) (slot_exact j b.0 b.1))
       ∙ ap (behind xs) (let u : suc (r.lost + j) ≡ r.lost + suc j = omega arith in u)
 
   pub test_exact : (p : Slot → Bool) (j : ℕ) → j < length r.cells → passes p (map slot_of r.cells) j ≡ passes p xs (r.lost + j)

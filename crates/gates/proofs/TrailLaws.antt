@@ -1,7 +1,7 @@
 -- What keeps a list trailing its history: growth of the history, a slot more, and an outcome that was looked for.
 use Rattle.history.specs.Legal.{Setup, MayCome, Legal}
 use Rattle.history.proofs.Opening.{placed_stays, chain_was, done_stays}
-use Rattle.gates.proofs.Common.{ArePlain, Bool, Entry, Event, HasNotSevered, HaveGoneOn, IsChainDone, IsChained, IsOfChain, IsOutcome, IsPlaced, IsPlainAt, IsReplied, Kept, List, None, Option, Req, Slot, Some, Stands, StandsIn, Submitted, TrailedAt, Trails, TrailsAt, Traits, [], answered, ap, arith, bool_cases, cases_lt, eqb-true, false, inl, inr, is_pending, is_unanswered, joins, length, length-append, length-replicate, none-some, nth, passes, phase, refl, replied_stays, reply_of_replied, reply_stays, set, slice_get, slice_get_within, slot_with, stand_in, stand_ins, submission, submission_none, submission_stays, submits, subst, sym, test_at, traits_of, true, true≢false, with_reply, ℕ, ⊎_elim, ◌++◌, ◌+◌, ◌<◌, ◌==◌, ◌∙◌, ◌∷◌, ◌≡◌, ◌≤◌, ◌⊎◌}
+use Rattle.gates.proofs.Common.{ArePlain, Bool, Entry, Event, HasNotSevered, HaveGoneOn, IsChainDone, IsChained, IsOfChain, IsOutcome, IsPlaced, IsReplied, Kept, List, None, Option, Req, Slot, Some, Stands, StandsIn, Submitted, TrailedAt, Trails, TrailsAt, Traits, [], answered, ap, arith, bool_cases, cases_lt, eqb-true, false, inl, inr, is_pending, is_unanswered, joins, length, length-append, length-replicate, none-some, nth, passes, phase, refl, replied_stays, reply_of_replied, reply_stays, set, slice_get, slice_get_within, slot_with, stand_in, stand_ins, submission, submission_none, submission_stays, submits, subst, sym, test_at, traits_of, true, true≢false, with_reply, ℕ, ⊎_elim, ◌++◌, ◌+◌, ◌<◌, ◌==◌, ◌∙◌, ◌∷◌, ◌≡◌, ◌≤◌, ◌⊎◌}
 use Rattle.gates.proofs.Lists.{get_before, get_last, get_set_same, get_set_other, one_some}
 use Rattle.gates.proofs.Links.{ne_of}
 use Rattle.gates.proofs.Trailing.{trailed}

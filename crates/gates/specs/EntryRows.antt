@@ -5,7 +5,7 @@ use Rattle.gates.specs.declared.cell.Behind.{Behind}
 use Rattle.gates.specs.declared.cell.Cell.{Cell}
 use Rattle.gates.specs.declared.traits.Traits.{Traits}
 use Rattle.gates.specs.declared.gate.Asked.{Asked}
-use Rattle.gates.specs.Slots.{Slot, slot_of, traits_of, starting, is_pending, is_draining, is_target_timer, next_of, behind, passes}
+use Rattle.gates.specs.Slots.{Slot, slot_of, traits_of, starting, is_pending, is_draining, is_target_timer, behind_next, behind, passes}
 
 -- how many cells there are, how many entries have lost theirs to later ones, the cells of the others in order, the places
 -- among them of the first that has not replied, and of the first drain that has not, and how many entries were noted as plain
@@ -34,7 +34,7 @@ pub record IsFirst (p : Slot → Bool) (xs : List Slot) (n : ℕ) : Type 0 where
 
 -- what stands before the cell after j is told by the cell j; n entries have lost their cells
 abbrev pub LinkedAt : ℕ → List Cell → ℕ → Type 0
-LinkedAt n cs j = (c d : Cell) → slice_get cs j ≡ Some c → slice_get cs (suc j) ≡ Some d → d.behind ≡ next_of (n + j) (slot_of c) c.behind
+LinkedAt n cs j = (c d : Cell) → slice_get cs j ≡ Some c → slice_get cs (suc j) ≡ Some d → d.behind ≡ behind_next (n + j) (slot_of c) c.behind
 
 abbrev pub Linked : ℕ → List Cell → Type 0
 Linked n cs = (j : ℕ) → LinkedAt n cs j
@@ -112,7 +112,7 @@ without_first r = record { size = r.size; lost = r.lost + 1; cells = drop 1 r.ce
 
 -- it is what the last cell says of the next entry; n entries have lost their cells
 abbrev pub IsToldBy : ℕ → List Cell → Behind → Type 0
-IsToldBy n cs b = (c : Cell) → slice_get cs (length cs - 1) ≡ Some c → b ≡ next_of (n + (length cs - 1)) (slot_of c) c.behind
+IsToldBy n cs b = (c : Cell) → slice_get cs (length cs - 1) ≡ Some c → b ≡ behind_next (n + (length cs - 1)) (slot_of c) c.behind
 
 abbrev pub begins_after : ℕ → Option Cell → Bool
 begins_after n None = false

@@ -38,8 +38,8 @@ IsOfChain h p q = (p ≡ q) ⊎ IsChained h p q
 
 -- of n cells the one of the request r, which comes next, is free: no earlier request had it, or the last one that had it has
 -- replied, and each member of that one's chain (in a row a request counts as reaped once it has replied)
-abbrev pub IsFree : List Event → ℕ → Req → Type 0
-IsFree h n r = (r.k < n) ⊎ (IsReplied (phase h (nth r.ring (r.k - n))) × ((p : Req) → p.k < r.k → IsChained h p (nth r.ring (r.k - n)) → IsReplied (phase h p)))
+abbrev pub HasFreeCell : List Event → ℕ → Req → Type 0
+HasFreeCell h n r = (r.k < n) ⊎ (IsReplied (phase h (nth r.ring (r.k - n))) × ((p : Req) → p.k < r.k → IsChained h p (nth r.ring (r.k - n)) → IsReplied (phase h p)))
 
 -- the slot stands in for a request whose whole chain has replied: it has no flags, and a reply that doesn't fail
 pub record StandsIn (h : List Event) (q : Req) (s : Slot) : Type 0 where

@@ -61,8 +61,8 @@ abbrev pub is_severing : Bool → Slot → Bool
 is_severing hosted s = is_failed s.reply && (not s.traits.links_hard || is_placed_invalid hosted s)
 
 -- what the entry k, with what stands before it, makes of the next
-abbrev pub next_of : ℕ → Slot → Behind → Behind
-next_of k s b = record {
+abbrev pub behind_next : ℕ → Slot → Behind → Behind
+behind_next k s b = record {
   severed = joins_of s && (is_severing b.hosted s || b.severed);
   held = joins_of s && (is_pending s || b.held);
   hosted = hosts_of s;
@@ -78,7 +78,7 @@ first = starting 0
 
 abbrev pub next_in : ℕ → Option Slot → Behind → Behind
 next_in k None b = b
-next_in k (Some s) b = next_of k s b
+next_in k (Some s) b = behind_next k s b
 
 -- what the entries before the entry k make of it
 abbrev pub behind : List Slot → ℕ → Behind

@@ -1,6 +1,6 @@
 //! What a row keeps of one request.
 ghost use Rattle.std.specs.Prelude.{◌≡◌, ◌+◌, ◌-◌, ◌^◌, ◌<◌};
-ghost use Rattle.gates.specs.Slots.{slot_of, joins_of, hosts_of, is_pending, is_draining, is_severing, is_placed_invalid, is_target_timer, next_of};
+ghost use Rattle.gates.specs.Slots.{slot_of, joins_of, hosts_of, is_pending, is_draining, is_severing, is_placed_invalid, is_target_timer, behind_next};
 
 use crate::traits::Traits;
 
@@ -83,7 +83,7 @@ impl Cell {
     /// What the entries before the next request make of that one, where this is the request `k`.
     pub fn next(&self, k: u64) -> Behind
         requires { k < 2 ^ 64 - 1 }
-        ensures { result ≡ next_of k (slot_of self.now) self.now.behind }
+        ensures { result ≡ behind_next k (slot_of self.now) self.now.behind }
     {
         let joins = self.joins();
         Behind {

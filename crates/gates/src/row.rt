@@ -3,7 +3,7 @@ ghost use Rattle.std.specs.Prelude.{◌≡◌, ◌↔◌, ◌⊎◌, IsTrue, ℕ
 ghost use Rattle.history.specs.declared.event.Event.{Event};
 ghost use Rattle.gates.specs.{Slot, starting, passes, is_pending, Kept, HasCell, Stands, added, new_slot, slot_with, stand_in, stand_ins, with_reply, Waits, waiting, way_in, asked_by, IsAnswer, IsBar, place_by, target_by, without_first, IsToldBy, free_by, link_in};
 ghost use Rattle.history.specs.History.{IsReplied, phase};
-ghost use Rattle.gates.specs.Shows.{nth, Shows, Mirrors, Trails, IsGate, IsAsked, IsTargetOf, IsFree, IsOfChain, named_in, linked_in};
+ghost use Rattle.gates.specs.Shows.{nth, Shows, Mirrors, Trails, IsGate, IsAsked, IsTargetOf, HasFreeCell, IsOfChain, named_in, linked_in};
 
 use crate::cell::{Behind, Cell};
 use crate::cells::{
@@ -94,7 +94,7 @@ impl Row {
         ensures number { IfOk result (λ k. k ≡ added self.old) }
         ensures cell { IfOk result (λ k. HasCell self.new k) }
         ensures added { OnOk result ((xs : List Slot) → Stands xs self.old → Stands (xs ++ new_slot sqe last ∷ []) self.new) }
-        ensures free { (h : List Event) (i : ℕ) (xs : List Slot) → Stands xs self.old → Shows h i xs → IsOk result ↔ IsFree h self.old.size (nth i (added self.old)) }
+        ensures free { (h : List Event) (i : ℕ) (xs : List Slot) → Stands xs self.old → Shows h i xs → IsOk result ↔ HasFreeCell h self.old.size (nth i (added self.old)) }
         ensures room { IsOk result ↔ (way_in self.old ≡ None) }
         ensures count { OnOk result (added self.new ≡ added self.old + 1) }
         ensures lost { OnOk result ((self.new.lost ≡ self.old.lost) ⊎ ((self.new.lost ≡ self.old.lost + 1) × (length self.old.cells ≡ self.old.size))) }
@@ -112,7 +112,7 @@ impl Row {
         ensures number { IfOk result (λ k. k ≡ added self.old) }
         ensures cell { IfOk result (λ k. HasCell self.new k) }
         ensures added { OnOk result ((xs : List Slot) → Stands xs self.old → Stands (xs ++ slot_with traits last ∷ []) self.new) }
-        ensures free { (h : List Event) (i : ℕ) (xs : List Slot) → Stands xs self.old → Shows h i xs → IsOk result ↔ IsFree h self.old.size (nth i (added self.old)) }
+        ensures free { (h : List Event) (i : ℕ) (xs : List Slot) → Stands xs self.old → Shows h i xs → IsOk result ↔ HasFreeCell h self.old.size (nth i (added self.old)) }
         ensures room { IsOk result ↔ (way_in self.old ≡ None) }
         ensures count { OnOk result (added self.new ≡ added self.old + 1) }
         ensures lost { OnOk result ((self.new.lost ≡ self.old.lost) ⊎ ((self.new.lost ≡ self.old.lost + 1) × (length self.old.cells ≡ self.old.size))) }

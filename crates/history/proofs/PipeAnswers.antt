@@ -29,7 +29,7 @@ and_same false k z x y e = refl
 -- ---- it depends on what the pipes hold
 
 abbrev level_held : ℕ → Held → Level
-level_held cap v = record { capacity = cap; count = length v.bytes; read_shut = v.read_shut; write_shut = v.write_shut }
+level_held cap v = record { capacity = cap; count = length v.bytes; read_closed = v.read_closed; write_closed = v.write_closed }
 
 module _ (caps : List ℕ) (f g : ℕ → Flow) where
   abbrev Agree : End → Type 0
@@ -47,11 +47,11 @@ module _ (caps : List ℕ) (f g : ℕ → Flow) where
 
   into_same : (p q len : ℕ) → is_pipe caps p ≡ true → Agree (read_end p) → Agree (write_end q) → splice_into caps f p q len ≡ splice_into caps g p q len
   into_same p q len b k l = and_same (is_pipe caps q) _ _ _ _ (λ c. (λ i. (let v : Held = k p b (eq-eqb p p refl) i in let w : Held = l q c (eq-eqb q q refl) i in
-      cond (not w.write_shut) (cond (p == q) (now (negsuc 21) []) (bare (splice_reply (level_held (slice_index caps p) v) (level_held (slice_index caps q) w) len))) bad_end)))
+      cond (not w.write_closed) (cond (p == q) (now (negsuc 21) []) (bare (splice_reply (level_held (slice_index caps p) v) (level_held (slice_index caps q) w) len))) bad_end)))
 
   splice_same : (x z : End) (len : ℕ) → Agree x → Agree z → splice_of caps f x z len ≡ splice_of caps g x z len
   splice_same (read_end p) (write_end q) len k l = and_same (is_pipe caps p) _ _ _ _ (λ b.
-      ap (λ (v : Held). cond (not v.read_shut) (splice_into caps f p q len) bad_end) (k p b (eq-eqb p p refl)) ∙ ap (λ (x : Answer). cond (not (g p).read_shut) x bad_end) (into_same p q len b k l))
+      ap (λ (v : Held). cond (not v.read_closed) (splice_into caps f p q len) bad_end) (k p b (eq-eqb p p refl)) ∙ ap (λ (x : Answer). cond (not (g p).read_closed) x bad_end) (into_same p q len b k l))
   splice_same (read_end p) (read_end q) len k l = refl
   splice_same (read_end p) no_end len k l = refl
   splice_same (write_end p) z len k l = refl
@@ -90,10 +90,10 @@ module _ (caps : List ℕ) (f : ℕ → Flow) where
 
   splice_off : (x z : End) (len : ℕ) → Off x ⊎ Off z → splice_of caps f x z len ≡ bad_end
   splice_off (read_end p) (write_end q) len n = ⊎_elim
-      (λ (o : Off (read_end p)). ap (λ (b : Bool). cond (b && not (f p).read_shut) (splice_into caps f p q len) bad_end) (o p (eq-eqb p p refl)))
+      (λ (o : Off (read_end p)). ap (λ (b : Bool). cond (b && not (f p).read_closed) (splice_into caps f p q len) bad_end) (o p (eq-eqb p p refl)))
       (λ (o : Off (write_end q)).
-      ap (λ (b : Bool). cond (is_pipe caps p && not (f p).read_shut) (cond (b && not (f q).write_shut) (cond (p == q) (now (negsuc 21) []) (bare (splice_reply (level_at caps f p) (level_at caps f q) len))) bad_end) bad_end) (o q (eq-eqb q q refl))
-      ∙ one_bad (is_pipe caps p && not (f p).read_shut)) n
+      ap (λ (b : Bool). cond (is_pipe caps p && not (f p).read_closed) (cond (b && not (f q).write_closed) (cond (p == q) (now (negsuc 21) []) (bare (splice_reply (level_at caps f p) (level_at caps f q) len))) bad_end) bad_end) (o q (eq-eqb q q refl))
+      ∙ one_bad (is_pipe caps p && not (f p).read_closed)) n
   splice_off (read_end p) (read_end q) len n = refl
   splice_off (read_end p) no_end len n = refl
   splice_off (write_end p) z len n = refl
@@ -166,12 +166,12 @@ module _ (caps : List ℕ) (f : ℕ → Flow) where
 
   splices_into : (p q len : ℕ) → HasNone (splice_into caps f p q len)
   splices_into p q len =
-      either HasNone (is_pipe caps q && not (f q).write_shut) _ bad_end
+      either HasNone (is_pipe caps q && not (f q).write_closed) _ bad_end
       (either HasNone (p == q) (now (negsuc 21) []) _ (none (negsuc 21)) (bares (splice_reply (level_at caps f p) (level_at caps f q) len)))
       (none (negsuc 8))
 
   splices_of : (x z : End) (len : ℕ) → HasNone (splice_of caps f x z len)
-  splices_of (read_end p) (write_end q) len = either HasNone (is_pipe caps p && not (f p).read_shut) (splice_into caps f p q len) bad_end (splices_into p q len) (none (negsuc 8))
+  splices_of (read_end p) (write_end q) len = either HasNone (is_pipe caps p && not (f p).read_closed) (splice_into caps f p q len) bad_end (splices_into p q len) (none (negsuc 8))
   splices_of _ _ len = none (negsuc 8)
 
   ends : (reply : Level → Side → Option ℤ) (x : End) → HasNone (at_end caps f reply x)

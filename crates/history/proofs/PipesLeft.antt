@@ -13,8 +13,8 @@ unwritten (read_end n) bytes res p w u = refl
 unwritten no_end bytes res p w u = refl
 
 unclosed : (x : End) (res : ℤ) (p : ℕ) (w : Flow) → is_at x p ≡ false → closes x res p w ≡ w
-unclosed (read_end n) res p w u = ap (λ b. cond (b && is_zero res) (let a : Flow = record w { read_shut = true } in a) w) u
-unclosed (write_end n) res p w u = ap (λ b. cond (b && is_zero res) (let a : Flow = record w { write_shut = true } in a) w) u
+unclosed (read_end n) res p w u = ap (λ b. cond (b && is_zero res) (let a : Flow = record w { read_closed = true } in a) w) u
+unclosed (write_end n) res p w u = ap (λ b. cond (b && is_zero res) (let a : Flow = record w { write_closed = true } in a) w) u
 unclosed no_end res p w u = refl
 
 neither : (a b : Bool) → (a || b) ≡ false → (a ≡ false) × (b ≡ false)
@@ -40,8 +40,8 @@ bad_write (read_end m) bytes n p w = refl
 bad_write no_end bytes n p w = refl
 
 bad_close : (x : End) (n p : ℕ) (w : Flow) → closes x (negsuc n) p w ≡ w
-bad_close (read_end m) n p w = elim (m == p) as (λ b. cond (b && false) (let a : Flow = record w { read_shut = true } in a) w ≡ w) [ true ↦ refl | false ↦ refl ]
-bad_close (write_end m) n p w = elim (m == p) as (λ b. cond (b && false) (let a : Flow = record w { write_shut = true } in a) w ≡ w) [ true ↦ refl | false ↦ refl ]
+bad_close (read_end m) n p w = elim (m == p) as (λ b. cond (b && false) (let a : Flow = record w { read_closed = true } in a) w ≡ w) [ true ↦ refl | false ↦ refl ]
+bad_close (write_end m) n p w = elim (m == p) as (λ b. cond (b && false) (let a : Flow = record w { write_closed = true } in a) w ≡ w) [ true ↦ refl | false ↦ refl ]
 bad_close no_end n p w = refl
 
 -- a reply that is an error

@@ -24,7 +24,7 @@ bad_end = now (negsuc 8) []
 
 -- what the replies of a pipe are decided by: cap is its capacity
 abbrev pub level_of : ℕ → Flow → Level
-level_of cap w = record { capacity = cap; count = length (content w); read_shut = w.read_shut; write_shut = w.write_shut }
+level_of cap w = record { capacity = cap; count = length (content w); read_closed = w.read_closed; write_closed = w.write_closed }
 
 -- a reply without data
 abbrev pub bare : Option ℤ → Answer
@@ -56,10 +56,10 @@ module _ (caps : List ℕ) (flow_at : ℕ → Flow) where
 
   -- from the pipe p: -22 where both ends are of one pipe (splice(2), EINVAL)
   abbrev pub splice_into : ℕ → ℕ → ℕ → Answer
-  splice_into p q len = cond (is_pipe caps q && not (flow_at q).write_shut) (cond (p == q) (now (negsuc 21) []) (bare (splice_reply (level_at p) (level_at q) len))) bad_end
+  splice_into p q len = cond (is_pipe caps q && not (flow_at q).write_closed) (cond (p == q) (now (negsuc 21) []) (bare (splice_reply (level_at p) (level_at q) len))) bad_end
 
   abbrev pub splice_of : End → End → ℕ → Answer
-  splice_of (read_end p) (write_end q) len = cond (is_pipe caps p && not (flow_at p).read_shut) (splice_into p q len) bad_end
+  splice_of (read_end p) (write_end q) len = cond (is_pipe caps p && not (flow_at p).read_closed) (splice_into p q len) bad_end
   splice_of _ _ len = bad_end
 
   -- an answer at an end of a pipe

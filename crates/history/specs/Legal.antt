@@ -49,8 +49,8 @@ pub record IsCounted (h : List Event) (r : Req) : Type 0 where
   pub enough : count_of entry.op ≤ later_replies h r
 
 -- the request was placed as one of these operations
-abbrev pub IsOf : List Event → Req → (Op → Bool) → Bool → Type 0
-IsOf h r is b = (e : Entry) × IsPlaced h r e × (is e.op ≡ b)
+abbrev pub IsPlacedAs : List Event → Req → (Op → Bool) → Bool → Type 0
+IsPlacedAs h r is b = (e : Entry) × IsPlaced h r e × (is e.op ≡ b)
 
 -- what each event asks for, beside that nothing but Cut follows Shut
 -- A cancel that runs may be parked, also after its Take or Miss, and be taken by another cancel while it waits. On a board only
@@ -58,14 +58,14 @@ IsOf h r is b = (e : Entry) × IsPlaced h r e × (is e.op ≡ b)
 -- A LINK_TIMEOUT that fired and was not settled before Shut is cut.
 abbrev pub MayCome : Setup → List Event → Event → Type 0
 MayCome s h (Submit r e bytes last) = (r.ring < s.rings) × (r.k ≡ submits h r.ring) × Fits e bytes
-MayCome s h (Begin r) = (phase h r ≡ waits) × Open h r × IsOf h r is_timer false
+MayCome s h (Begin r) = (phase h r ≡ waits) × Open h r × IsPlacedAs h r is_timer false
 MayCome s h (Park r) = phase h r ≡ runs
 MayCome s h (Reply r res data') = (phase h r ≡ runs) × Answers s.caps h r res data'
 MayCome s h (Take c t) = (phase h c ≡ runs) × MayHit h c t × IsIdle (phase h t)
 MayCome s h (Miss c t) = (phase h c ≡ runs) × MayHit h c t × (phase h t ≡ runs)
 MayCome s h (Tick n) = (clock_of h ≤ n) × (n ≤ 2147483647)
 MayCome s h (Arm r d) = (phase h r ≡ waits) × Open h r × (e : Entry) × (n : ℕ) × IsPlaced h r e × (ticks_of e.op ≡ Some n) × (d ≡ clock_of h + n)
-MayCome s h (Expire r) = IsDue h r × IsOf h r is_timeout true
+MayCome s h (Expire r) = IsDue h r × IsPlacedAs h r is_timeout true
 MayCome s h (Count r) = IsCounted h r
 MayCome s h (Fire l t) = IsDue h l × (fired h l ≡ false) × IsTarget h l t × IsIdle (phase h t)
 MayCome s h (FireMiss l t) = IsDue h l × (fired h l ≡ false) × IsTarget h l t × (phase h t ≡ runs)

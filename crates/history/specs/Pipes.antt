@@ -13,11 +13,11 @@ use Rattle.history.specs.Chains.{placed}
 pub record Flow : Type 0 where
   pub into : List ℕ
   pub out : ℕ
-  pub read_shut : Bool
-  pub write_shut : Bool
+  pub read_closed : Bool
+  pub write_closed : Bool
 
 abbrev pub untouched : Flow
-untouched = record { into = []; out = 0; read_shut = false; write_shut = false }
+untouched = record { into = []; out = 0; read_closed = false; write_closed = false }
 
 -- what is in the pipe
 abbrev pub content : Flow → List ℕ
@@ -46,8 +46,8 @@ writes (write_end x) bytes res p w = cond (x == p) (record w { into = w.into ++ 
 writes _ bytes res p w = w
 
 abbrev pub closes : End → ℤ → ℕ → Flow → Flow
-closes (read_end x) res p w = cond ((x == p) && is_zero res) (record w { read_shut = true }) w
-closes (write_end x) res p w = cond ((x == p) && is_zero res) (record w { write_shut = true }) w
+closes (read_end x) res p w = cond ((x == p) && is_zero res) (record w { read_closed = true }) w
+closes (write_end x) res p w = cond ((x == p) && is_zero res) (record w { write_closed = true }) w
 closes no_end res p w = w
 
 -- what a reply to this operation makes of the pipe p, where it puts the first of these bytes in

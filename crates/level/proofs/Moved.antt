@@ -12,7 +12,7 @@ read_cases false false false true len n = omega arith
 read_cases false false false false len n = omega arith
 
 pub read_few : (l : Level) (len : ℕ) → moved (read_reply l len) ≤ l.count
-read_few l len = read_cases l.read_shut (len == 0) (nat_lt 0 l.count) l.write_shut len l.count
+read_few l len = read_cases l.read_closed (len == 0) (nat_lt 0 l.count) l.write_closed len l.count
 
 splice_cases : (a b d e : Bool) (len n free : ℕ) → moved (cond a (Some (pos 0)) (cond b (Some (negsuc 31)) (cond d (Some (pos (min len (min n free)))) (cond e (Some (pos 0)) None)))) ≤ n
 splice_cases true b d e len n free = omega arith
@@ -22,4 +22,4 @@ splice_cases false false false true len n free = omega arith
 splice_cases false false false false len n free = omega arith
 
 pub splice_few : (source target : Level) (len : ℕ) → moved (splice_reply source target len) ≤ source.count
-splice_few source target len = splice_cases (len == 0) target.read_shut (nat_lt 0 (most_spliced source target)) ((source.count == 0) && source.write_shut) len source.count (free_in target)
+splice_few source target len = splice_cases (len == 0) target.read_closed (nat_lt 0 (most_spliced source target)) ((source.count == 0) && source.write_closed) len source.count (free_in target)

@@ -1,10 +1,13 @@
 //! The level of a pipe, and the replies that follow from it.
 ghost use Rattle.std.specs.Prelude.{◌≡◌, ◌<◌, ◌≤◌, min, cond};
-ghost use Rattle.level.specs.Replies.{close_reply, events_at, free_in, is_shut, moved, poll_reply, read_reply, splice_reply, write_reply};
+ghost use Rattle.level.specs.Replies.{close_reply, events_at, free_in, is_closed, moved, poll_reply, read_reply, splice_reply, write_reply};
 
 use crate::ends::End;
 use crate::errno::{EBADF, EPIPE};
 use crate::poll::{ALWAYS, POLLERR, POLLHUP, POLLIN, POLLOUT};
+
+/// The first number of bytes that is no reply: a reply has 31 bits.
+const REPLIES: u64 = 0x8000_0000;
 
 /// How many bytes a pipe holds at most, how many it holds, and which of its ends are closed. A reply is a number of bytes or of
 /// events, or the number of an error below 0 (errno(3)); None where there is none now, and a blocking call would wait.
@@ -12,24 +15,24 @@ use crate::poll::{ALWAYS, POLLERR, POLLHUP, POLLIN, POLLOUT};
 pub struct Level {
     pub capacity: u64,
     pub count: u64,
-    pub read_shut: bool,
-    pub write_shut: bool,
+    pub read_closed: bool,
+    pub write_closed: bool,
 }
 
 impl Level {
     /// A read of at most `len` bytes (read(2)).
     pub fn read(self, len: u64) -> Option<i32>
-        requires fits { min len self.count < 2147483648 }
+        requires fits { min len self.count < REPLIES }
         ensures reply { result ≡ read_reply self len }
         ensures moves { (moved result ≤ len) × (moved result ≤ self.count) }
     {
-        if self.read_shut {
+        if self.read_closed {
             Some(-EBADF)
         } else if len == 0 {
             Some(0)
         } else if self.count > 0 {
             Some(len.min(self.count) as i32)
-        } else if self.write_shut {
+        } else if self.write_closed {
             Some(0)
         } else {
             None
@@ -38,16 +41,16 @@ impl Level {
 
     /// A write of `len` bytes (write(2)). At most the capacity goes in whole or not at all, more than that as far as there is room.
     pub fn write(self, len: u64) -> Option<i32>
-        requires fits { min len self.capacity < 2147483648 }
+        requires fits { min len self.capacity < REPLIES }
         ensures reply { result ≡ write_reply self len }
         ensures moves { (moved result ≤ len) × (moved result ≤ free_in self) }
     {
         let free = self.free();
-        if self.write_shut {
+        if self.write_closed {
             Some(-EBADF)
         } else if len == 0 {
             Some(0)
-        } else if self.read_shut {
+        } else if self.read_closed {
             Some(-EPIPE)
         } else if len <= self.capacity {
             if len <= free { Some(len as i32) } else { None }
@@ -61,18 +64,18 @@ impl Level {
     /// A splice of at most `len` bytes into another pipe (splice(2)): as many as are here and as it has room for. Whether this
     /// pipe is open to readers and the other to writers isn't looked at.
     pub fn splice(self, target: Level, len: u64) -> Option<i32>
-        requires fits { min len self.count < 2147483648 }
+        requires fits { min len self.count < REPLIES }
         ensures reply { result ≡ splice_reply self target len }
         ensures moves { (moved result ≤ self.count) × (moved result ≤ free_in target) }
     {
         let most = self.count.min(target.free());
         if len == 0 {
             Some(0)
-        } else if target.read_shut {
+        } else if target.read_closed {
             Some(-EPIPE)
         } else if most > 0 {
             Some(len.min(most) as i32)
-        } else if self.count == 0 && self.write_shut {
+        } else if self.count == 0 && self.write_closed {
             Some(0)
         } else {
             None
@@ -83,7 +86,7 @@ impl Level {
     pub fn close(self, end: End) -> Option<i32>
         ensures reply { result ≡ close_reply self end }
     {
-        Some(if self.is_shut(end) { -EBADF } else { 0 })
+        Some(if self.is_closed(end) { -EBADF } else { 0 })
     }
 
     /// The events of an end that are in `mask`, and `POLLERR` and `POLLHUP` in any case (poll(2)).
@@ -91,7 +94,7 @@ impl Level {
         ensures reply { result ≡ poll_reply self end mask }
     {
         let events = self.events(end) & (mask | ALWAYS);
-        if self.is_shut(end) {
+        if self.is_closed(end) {
             Some(-EBADF)
         } else if events == 0 {
             None
@@ -101,12 +104,12 @@ impl Level {
     }
 
     /// Whether an end is closed.
-    pub fn is_shut(self, end: End) -> bool
-        ensures { result ≡ is_shut end self }
+    pub fn is_closed(self, end: End) -> bool
+        ensures { result ≡ is_closed end self }
     {
         match end {
-            End::Read => self.read_shut,
-            End::Write => self.write_shut,
+            End::Read => self.read_closed,
+            End::Write => self.write_closed,
         }
     }
 
@@ -123,8 +126,8 @@ impl Level {
         ensures bits { result < 32 }
     {
         match end {
-            End::Read => bits_if(self.count > 0, POLLIN) | bits_if(self.write_shut, POLLHUP),
-            End::Write => bits_if(self.free() > 0, POLLOUT) | bits_if(self.read_shut, POLLERR),
+            End::Read => bits_if(self.count > 0, POLLIN) | bits_if(self.write_closed, POLLHUP),
+            End::Write => bits_if(self.free() > 0, POLLOUT) | bits_if(self.read_closed, POLLERR),
         }
     }
 }

@@ -1,6 +1,6 @@
 //! Calls that make something from nothing; posts, timers, and a ready queue's end.
 ghost use Rattle.std.specs.Prelude.{All};
-ghost use Rattle.ready.specs.Ready.{IsOf};
+ghost use Rattle.ready.specs.Ready.{IsQueuePass};
 
 use crate::lines::{Call, Handed, Lines, Shown};
 use crate::objects::req;
@@ -208,7 +208,7 @@ fn try_timers(lines: &mut Lines) {
 struct Queue {
     queue: ReadyQueue,
     passes: Vec<ReadyPass>,
-    ghost own: { All (λ p. IsOf queue p) passes.items },
+    ghost own: { All (λ p. IsQueuePass queue p) passes.items },
 }
 
 impl<R: Wait> Handed<R> for Queue {
@@ -241,8 +241,8 @@ impl<R: Wait> Handed<R> for Queue {
 
 /// Puts a request into the queue, by its first pass.
 fn put<R: Wait>(rt: &R, queue: &ReadyQueue, passes: &mut Vec<ReadyPass>, k: u64)
-    requires { All (λ p. IsOf queue.now p) passes.old.items }
-    ensures { All (λ p. IsOf queue.now p) passes.new.items }
+    requires { All (λ p. IsQueuePass queue.now p) passes.old.items }
+    ensures { All (λ p. IsQueuePass queue.now p) passes.new.items }
 {
     if let Some(pass) = passes.get_mut(0) {
         let _ = queue.put(rt, pass, req(k));

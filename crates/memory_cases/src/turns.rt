@@ -61,8 +61,8 @@ fn signals_of(alloc: Global) -> Option<(Bell, Ringer, Sleeper)>
 
 /// A ready queue, with a pass for the poller and one for the worker.
 fn lane_of(alloc: Global) -> Option<(ReadyQueue, ReadyPass, ReadyPass)>
-    ensures poller { IfSome result (λ t. Ready.IsOf t.0 t.1) }
-    ensures worker { IfSome result (λ t. Ready.IsOf t.0 t.2) }
+    ensures poller { IfSome result (λ t. Ready.IsQueuePass t.0 t.1) }
+    ensures worker { IfSome result (λ t. Ready.IsQueuePass t.0 t.2) }
 {
     let Ok((queue, mut passes)) = ReadyQueue::new(alloc, CELLS, 2) else {
         return None;
@@ -178,7 +178,7 @@ impl Model for Stage {
 
     ghost view = { λ s. s.board };
 
-    ghost invariant = { λ s. IsOf s.board s.desk.poller × IsSleeperOf s.bell s.desk.sleeper × (s.desk.rings ≡ s.bell.rings) × Ready.IsOf s.queue s.desk.ready × Ready.IsOf s.queue s.work.ready × IfSome s.worker (λ w. IsOf s.board w) × IsOf s.board s.submitter × IsRingerOf s.bell s.ringer × (s.ringer.tail ≡ s.tail) };
+    ghost invariant = { λ s. IsOf s.board s.desk.poller × IsSleeperOf s.bell s.desk.sleeper × (s.desk.rings ≡ s.bell.rings) × Ready.IsQueuePass s.queue s.desk.ready × Ready.IsQueuePass s.queue s.work.ready × IfSome s.worker (λ w. IsOf s.board w) × IsOf s.board s.submitter × IsRingerOf s.bell s.ringer × (s.ringer.tail ≡ s.tail) };
 }
 
 /// Tells what was answered.

@@ -10,15 +10,15 @@ pub use Rattle.history.specs.declared.event.Event.{Event}
 pub use Rattle.history.specs.declared.event.Event.TheVariants.{Arm, Begin, Count, Cut, Expire, Fire, FireMiss, Miss, Park, Reap, Reply, Settle, Sever, Shut, Submit, Take}
 pub use Rattle.history.specs.declared.req.Req.{Req}
 pub use Rattle.model.specs.Agrees.{Agrees, Carries, Decided, Decision, IsNext, MayFollow, PipeIs, Refuses}
-pub use Rattle.model.specs.{answer_by, answer_in, op_answer, aims_as, aims_at, answer_all, answer_cancel, answer_one, comes_upon, is_escaped, is_none, may_miss, may_take, untried, Listed, any_below, asked_for, blocks, chain_done, clear_in, drains_of, held_back, lists, pending_of, reply_in_of, severed_in, severs_at, severs_by, wanted, empty_pipe, fresh, IsNear, back_at, back_in, back_other, back_to, is_other, ArePacked, below_first, packed, packed_in, packed_word, unpacked, bytes_in, moved, moved_over, put_into, put_pipe_at, put_reply, shut_at, taken_from, is_step, may_step, put_step, ring_of, contents_words, held_at, held_of, row_words, rows_words, standing_at, words_of}
+pub use Rattle.model.specs.{answer_by, answer_in, op_answer, aims_as, aims_at, answer_all, answer_cancel, answer_one, comes_upon, is_escaped, is_none, may_miss, may_take, untried, Listed, any_below, asked_for, blocks, chain_done, clear_in, drains_of, held_back, lists, pending_of, reply_in_of, severed_in, severs_at, severs_by, wanted, empty_pipe, fresh, IsNear, back_at, back_in, back_other, back_to, is_other, ArePacked, below_first, packed, packed_in, packed_word, unpacked, bytes_in, moved, moved_over, put_into, put_pipe_at, put_reply, closed_at, taken_from, is_step, may_step, put_step, ring_of, contents_words, held_at, held_of, row_words, rows_words, standing_at, words_of}
 pub use Rattle.model.specs.Content.{Content, bytes_at, bytes_of, caps_of, flow_at_of, flow_in, flow_of}
 pub use Rattle.model.specs.Machine.{Machine, setup_of}
 pub use Rattle.model.specs.Moves.{arms, born, cancelled, counted, counts_up, falls_due, gate_in, is_answered, is_armed, is_done, is_due, is_idle, is_replied, is_running, is_waits, later_answered, may_arm, may_begin, may_count, may_cut, may_expire, may_fire, may_fire_miss, may_park, may_reap, may_settle, may_sever, open_in, placed_as, put, put_at, put_fired, put_found, put_reaped, put_settled, put_stage, put_taken, runs_in, runs_of, runs_out, taken_out, timed_out}
 pub use Rattle.model.specs.Run.{Run}
 pub use Rattle.model.specs.Seen.{Seen, find, fired_of, found_in, handed_at, handed_in, handed_of, is_pending, placed_in, reply_at, seen, seen_of, stage_at, stage_of, with_op}
 pub use Rattle.model.specs.declared.request.Request.{Request}
-pub use Rattle.model.specs.declared.request.Stage.{Stage}
-pub use Rattle.model.specs.declared.request.Stage.TheVariants.{Armed, Reaped, Replied, Runs, Waits}
+pub use Rattle.model.specs.declared.request.RequestStage.{RequestStage}
+pub use Rattle.model.specs.declared.request.RequestStage.TheVariants.{Armed, Reaped, Replied, Runs, Waits}
 pub use Rattle.std.proofs.Common.{Bool, List, None, Option, SFits, Some, [], ap, append-nil, append_assoc, arith, cond, drop, eq-eqb, eqb-true, false, get_or, get_or-drop, inl, inr, length, length-append, length-drop, lit≤, map, nat_le, nat_lt, negsuc, not, of_z, pos, refl, rules, set, sub-one, subst, suc, sym, take, take_all, to_z, true, true≢false, w32, zero, ℕ, ℤ, ⊎_elim, ◌%◌, ◌&&◌, ◌*◌, ◌++◌, ◌+◌, ◌-◌, ◌/◌, ◌<◌, ◌==◌, ◌||◌, ◌∙◌, ◌∷◌, ◌≡◌, ◌≤◌, ◌⊎◌}
 pub use Rattle.std.proofs.Math.ListN.{length-set}
 pub use Rattle.std.proofs.Math.Nat.{mod-add-div}

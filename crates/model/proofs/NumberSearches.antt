@@ -1,5 +1,5 @@
 -- A search over the numbers in a list is a search over all numbers, where the list has those that count.
-use Rattle.model.proofs.Common.{Bool, Catch, List, Listed, Op, Option, Request, Some, Stage, [], and_left, and_right, any_below, ap, arith, blocks, bool_cases, chain_done, clear_in, common_steps, drains_of, eq-eqb, eqb-true, false, held_back, is_pending, is_running, length, list_any, lists, lt-ltb, ltb-true, nat_lt, not, pending_of, refl, runs_of, severed_in, slice_get, slice_get_past, subst, suc, sym, true, true≢false, untried, wanted, zero, ℕ, ⊎_elim, ◌&&◌, ◌<◌, ◌==◌, ◌||◌, ◌∙◌, ◌∷◌, ◌≡◌, ◌≤◌}
+use Rattle.model.proofs.Common.{Bool, Catch, List, Listed, Op, Option, Request, Some, RequestStage, [], and_left, and_right, any_below, ap, arith, blocks, bool_cases, chain_done, clear_in, common_steps, drains_of, eq-eqb, eqb-true, false, held_back, is_pending, is_running, length, list_any, lists, lt-ltb, ltb-true, nat_lt, not, pending_of, refl, runs_of, severed_in, slice_get, slice_get_past, subst, suc, sym, true, true≢false, untried, wanted, zero, ℕ, ⊎_elim, ◌&&◌, ◌<◌, ◌==◌, ◌||◌, ◌∙◌, ◌∷◌, ◌≡◌, ◌≤◌}
 
 -- one passes
 pub any_at : (p : ℕ → Bool) (n m : ℕ) → m < n → p m ≡ true → any_below p n ≡ true
@@ -50,7 +50,7 @@ any_listed_all p ms n l none = same_answer _ _
 blocks_pending : (d : Bool) (o : Option Request) → blocks d o ≡ true → pending_of o ≡ true
 blocks_pending = grind (arith, common_steps, and_left)
 
-runs_pending_at : (s : Stage) → is_running (Some s) ≡ true → is_pending s ≡ true
+runs_pending_at : (s : RequestStage) → is_running (Some s) ≡ true → is_pending s ≡ true
 runs_pending_at = grind (arith, common_steps)
 
 runs_pending : (o : Option Request) → runs_of o ≡ true → pending_of o ≡ true

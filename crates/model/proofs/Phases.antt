@@ -1,5 +1,5 @@
 -- What a stage tells of the phase.
-use Rattle.model.proofs.Common.{Bool, Cause, IsIdle, IsPending, IsReplied, None, Option, Phase, Request, Some, Stage, arith, armed, common_steps, false, is_answered, is_armed, is_due, is_idle, is_pending, is_replied, is_running, is_waits, leb-true, pending_of, replied, runs, stage_at, stage_of, true, waits, ℕ, ℤ, ◌≡◌, ◌≤◌}
+use Rattle.model.proofs.Common.{Bool, Cause, IsIdle, IsPending, IsReplied, None, Option, Phase, Request, Some, RequestStage, arith, armed, common_steps, false, is_answered, is_armed, is_due, is_idle, is_pending, is_replied, is_running, is_waits, leb-true, pending_of, replied, runs, stage_at, stage_of, true, waits, ℕ, ℤ, ◌≡◌, ◌≤◌}
 
 pub waits_from : (p : Phase) → is_waits (stage_of p) ≡ true → p ≡ waits
 waits_from = grind (arith, common_steps)
@@ -28,7 +28,7 @@ answered_from = grind (arith, common_steps)
 pub from_answered : (p : Phase) → IsReplied p → is_answered (stage_of p) ≡ true
 from_answered = grind (arith, common_steps)
 
-abbrev pub pending_as : Option Stage → Bool
+abbrev pub pending_as : Option RequestStage → Bool
 pending_as None = false
 pending_as (Some s) = is_pending s
 

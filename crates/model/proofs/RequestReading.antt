@@ -1,10 +1,10 @@
 -- What the requests of a ring tell is what the history tells of them.
-use Rattle.model.proofs.Common.{AllTried, Bool, Entry, Event, Hit, Invalid, IsBefore, IsClear, IsFirst, IsReplied, List, Matches, None, NoneLeft, Op, Option, Phase, Req, Request, Seen, Severed, Some, Stage, and_left, and_right, any_below, ap, arith, asked_for, asks_for, blocks, bool_cases, catch_in, chain_done, clear_in, common_steps, cond, drains, drains_of, false, get_or, handed_at, handed_in, has_missed, held_back, inl, inr, is_answered, is_escaped, is_pending, joins, length, missed_in, not, not_true, pending_of, phase, placed, placed_behind, placed_from, placed_in, refl, reply, reply_at, reply_in, reply_in_of, seen, seen_of, severed_in, slice_get, slice_get-get_or, slice_get_within, stage_at, stage_of, submission, subst, sym, true, true≢false, untried, wanted, ℕ, ℤ, ⊎_elim, ◌&&◌, ◌-◌, ◌<◌, ◌==◌, ◌||◌, ◌∙◌, ◌≡◌}
+use Rattle.model.proofs.Common.{AllTried, Bool, Entry, Event, Hit, Invalid, IsBefore, IsClear, IsFirst, IsReplied, List, Matches, None, NoneLeft, Op, Option, Phase, Req, Request, Seen, Severed, Some, RequestStage, and_left, and_right, any_below, ap, arith, asked_for, asks_for, blocks, bool_cases, catch_in, chain_done, clear_in, common_steps, cond, drains, drains_of, false, get_or, handed_at, handed_in, has_missed, held_back, inl, inr, is_answered, is_escaped, is_pending, joins, length, missed_in, not, not_true, pending_of, phase, placed, placed_behind, placed_from, placed_in, refl, reply, reply_at, reply_in, reply_in_of, seen, seen_of, severed_in, slice_get, slice_get-get_or, slice_get_within, stage_at, stage_of, submission, subst, sym, true, true≢false, untried, wanted, ℕ, ℤ, ⊎_elim, ◌&&◌, ◌-◌, ◌<◌, ◌==◌, ◌||◌, ◌∙◌, ◌≡◌}
 use Rattle.model.proofs.Phases.{answered_from, from_answered}
 use Rattle.model.proofs.NumberSearches.{any_at, any_found}
 use Rattle.model.proofs.ChainWalks.{severed_by, severed_from, done_by, done_from, severs_at_by, severs_at_from}
 
-abbrev reply_as : Option Stage → Option ℤ
+abbrev reply_as : Option RequestStage → Option ℤ
 reply_as None = None
 reply_as (Some s) = reply_at s
 

@@ -1,8 +1,8 @@
 -- Writing one request of a ring.
-use Rattle.model.proofs.Common.{Bool, Catch, List, None, Option, Reaped, Replied, Request, Some, Stage, arith, common_steps, false, length, length-set, put, put_at, put_fired, put_found, put_reaped, put_stage, put_taken, slice_get, stage_at, taken_out, true, ℕ, ℤ, ◌≡◌}
+use Rattle.model.proofs.Common.{Bool, Catch, List, None, Option, Reaped, Replied, Request, Some, RequestStage, arith, common_steps, false, length, length-set, put, put_at, put_fired, put_found, put_reaped, put_stage, put_taken, slice_get, stage_at, taken_out, true, ℕ, ℤ, ◌≡◌}
 
 -- a request whose stage passes a test is there
-pub some_at : (p : Option Stage → Bool) → p None ≡ false → (o : Option Request) → p (stage_at o) ≡ true → (x : Request) × (o ≡ Some x)
+pub some_at : (p : Option RequestStage → Bool) → p None ≡ false → (o : Option Request) → p (stage_at o) ≡ true → (x : Request) × (o ≡ Some x)
 some_at = grind (arith, common_steps)
 
 -- a write leaves the number of requests

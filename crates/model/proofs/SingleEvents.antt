@@ -1,5 +1,5 @@
 -- The events that one request alone decides: Begin, Park, Sever, Reap, Cut.
-use Rattle.model.proofs.Common.{Agrees, Begin, Cut, Event, IsClear, IsPending, IsReplied, List, Machine, MayCome, Open, Option, Park, Phase, Reap, Req, Request, Runs, Seen, Sever, Some, Stage, Waits, [], after_reap, and_left, and_right, ap, arith, cancelled, common_steps, cond, eq-eqb, false, gate_in, gate_of, is_link_timeout_in, is_replied, is_running, is_timer, is_waits, may_begin, may_cut, may_park, may_reap, may_sever, not, not_true, open_in, pending_of, phase, placed_as, placed_in, previous, put_reaped, put_stage, refl, runs, seen, seen_of, setup_of, severed_in, slice_get, stage_at, stage_of, sub-one, subst, suc, sym, taken_out, true, true≢false, waits, zero, ℕ, ◌&&◌, ◌-◌, ◌∙◌, ◌∷◌, ◌≡◌}
+use Rattle.model.proofs.Common.{Agrees, Begin, Cut, Event, IsClear, IsPending, IsReplied, List, Machine, MayCome, Open, Option, Park, Phase, Reap, Req, Request, Runs, Seen, Sever, Some, RequestStage, Waits, [], after_reap, and_left, and_right, ap, arith, cancelled, common_steps, cond, eq-eqb, false, gate_in, gate_of, is_link_timeout_in, is_replied, is_running, is_timer, is_waits, may_begin, may_cut, may_park, may_reap, may_sever, not, not_true, open_in, pending_of, phase, placed_as, placed_in, previous, put_reaped, put_stage, refl, runs, seen, seen_of, setup_of, severed_in, slice_get, stage_at, stage_of, sub-one, subst, suc, sym, taken_out, true, true≢false, waits, zero, ℕ, ◌&&◌, ◌-◌, ◌∙◌, ◌∷◌, ◌≡◌}
 use Rattle.history.proofs.Untaken.{untaken}
 use Rattle.model.proofs.Phases.{waits_from, runs_from, replied_from, pending_as, pending_at, pending_from, from_pending}
 use Rattle.model.proofs.RequestReading.{stage_is, placed_is, placed_of, clear_is, was_clear, kept_before, severed_is, was_severed}
@@ -74,7 +74,7 @@ pending_unreplied : (p : Phase) → IsPending p → ¬ IsReplied p
 pending_unreplied = grind (arith, common_steps)
 
 -- a reaped request keeps its reply
-reaped_stage : (p : Phase) (s : Stage) → stage_of p ≡ Some s → stage_of (after_reap p) ≡ Some (taken_out s)
+reaped_stage : (p : Phase) (s : RequestStage) → stage_of p ≡ Some s → stage_of (after_reap p) ≡ Some (taken_out s)
 reaped_stage = grind (arith, common_steps)
 
 module _ (m : Machine) (h : List Event) (a : Agrees h m) (i k : ℕ) where

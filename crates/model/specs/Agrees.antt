@@ -12,8 +12,8 @@ use Rattle.model.specs.Seen.{seen, seen_of, find}
 pub record PipeIs (w : Flow) (x : Content) : Type 0 where
   pub bytes : content w ≡ x.bytes
   pub within : w.out ≤ length w.into
-  pub read_shut : w.read_shut ≡ x.read_shut
-  pub write_shut : w.write_shut ≡ x.write_shut
+  pub read_closed : w.read_closed ≡ x.read_closed
+  pub write_closed : w.write_closed ≡ x.write_closed
 
 -- each request, each ring's count, each pipe, the clock and the end are as the history says
 pub record Agrees (h : List Event) (m : Machine) : Type 0 where

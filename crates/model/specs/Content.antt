@@ -5,12 +5,12 @@ use Rattle.history.specs.Pipes.{Flow, untouched}
 pub record Content : Type 0 where
   pub cap : ℕ
   pub bytes : List ℕ
-  pub read_shut : Bool
-  pub write_shut : Bool
+  pub read_closed : Bool
+  pub write_closed : Bool
 
 -- as if nothing had been taken out yet
 abbrev pub flow_of : Content → Flow
-flow_of x = record { into = x.bytes; out = 0; read_shut = x.read_shut; write_shut = x.write_shut }
+flow_of x = record { into = x.bytes; out = 0; read_closed = x.read_closed; write_closed = x.write_closed }
 
 abbrev pub flow_at_of : Option Content → Flow
 flow_at_of None = untouched

@@ -4,7 +4,7 @@ use Rattle.model.specs.Content.{Content}
 use Rattle.model.specs.Machine.{Machine}
 
 abbrev pub empty_pipe : ℕ → Content
-empty_pipe cap = record { cap = cap; bytes = []; read_shut = false; write_shut = false }
+empty_pipe cap = record { cap = cap; bytes = []; read_closed = false; write_closed = false }
 
 abbrev pub fresh : ℕ → List ℕ → Machine
 fresh rings caps = record { rings = replicate rings []; pipes = map empty_pipe caps; clock = 0; shut = false }

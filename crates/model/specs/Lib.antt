@@ -28,7 +28,7 @@ pub use Rattle.model.specs.Moves.{cancelled, counted, is_answered, is_done, is_d
 pub use Rattle.model.specs.Near.{IsNear, back_at, back_in, back_other, back_to, is_other}
 pub use Rattle.model.specs.Packed.{ArePacked, below_first, packed, packed_in, packed_word, unpacked}
 pub use Rattle.model.specs.Ready.{IsNow, answer_as, answer_of}
-pub use Rattle.model.specs.Replies.{bytes_in, moved, moved_over, put_into, put_pipe_at, put_reply, shut_at, taken_from}
+pub use Rattle.model.specs.Replies.{bytes_in, moved, moved_over, put_into, put_pipe_at, put_reply, closed_at, taken_from}
 pub use Rattle.model.specs.Run.{IsAllowed, after}
 pub use Rattle.model.specs.Seen.{find, handed_in, handed_of, is_pending, placed_in, reply_at, stage_at, with_op}
 pub use Rattle.model.specs.Steps.{is_step, may_step, put_step, ring_of}

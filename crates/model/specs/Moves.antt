@@ -4,8 +4,8 @@ use Rattle.std.specs.List.{filter}
 use Rattle.entry.specs.Entry.{Entry}
 use Rattle.entry.specs.declared.op.Op.{Op}
 use Rattle.model.specs.declared.request.Request.{Request}
-use Rattle.model.specs.declared.request.Stage.{Stage}
-use Rattle.model.specs.declared.request.Stage.TheVariants.{Waits, Runs, Armed, Replied, Reaped}
+use Rattle.model.specs.declared.request.RequestStage.{RequestStage}
+use Rattle.model.specs.declared.request.RequestStage.TheVariants.{Waits, Runs, Armed, Replied, Reaped}
 use Rattle.history.specs.{is_timer, is_timeout, is_link_timeout, is_link_timeout_in, ticks_of, count_of, Catch, none_yet}
 use Rattle.model.specs.Seen.{is_pending, stage_at, fired_of, placed_in}
 use Rattle.model.specs.Decides.{pending_of, severed_in, clear_in, any_below}
@@ -18,7 +18,7 @@ put_at xs k f (Some x) = set xs k (f x)
 abbrev pub put : List Request → ℕ → (Request → Request) → List Request
 put xs k f = put_at xs k f (slice_get xs k)
 
-abbrev pub put_stage : List Request → ℕ → Stage → List Request
+abbrev pub put_stage : List Request → ℕ → RequestStage → List Request
 put_stage xs k s = put xs k (λ x. record x { stage = s })
 
 abbrev pub put_found : List Request → ℕ → (Catch → Catch) → List Request
@@ -30,20 +30,20 @@ put_fired xs k = put xs k (λ x. record x { fired = true })
 abbrev pub put_taken : List Request → ℕ → List ℕ → List Request
 put_taken xs k bs = put xs k (λ x. record x { taken = bs })
 
-abbrev pub is_waits : Option Stage → Bool
+abbrev pub is_waits : Option RequestStage → Bool
 is_waits (Some Waits) = true
 is_waits _ = false
 
-abbrev pub is_running : Option Stage → Bool
+abbrev pub is_running : Option RequestStage → Bool
 is_running (Some Runs) = true
 is_running _ = false
 
 -- it is armed, with a deadline at or below the clock
-abbrev pub is_due : ℕ → Option Stage → Bool
+abbrev pub is_due : ℕ → Option RequestStage → Bool
 is_due clock (Some (Armed d)) = nat_le d clock
 is_due clock _ = false
 
-abbrev pub is_armed : Option Stage → Bool
+abbrev pub is_armed : Option RequestStage → Bool
 is_armed (Some (Armed d)) = true
 is_armed _ = false
 
@@ -62,27 +62,27 @@ abbrev pub may_begin : List Request → ℕ → Bool
 may_begin xs k = is_waits (stage_at (slice_get xs k)) && (open_in xs k && not (placed_as is_timer (placed_in xs k)))
 
 -- it is armed or waits
-abbrev pub is_idle : Option Stage → Bool
+abbrev pub is_idle : Option RequestStage → Bool
 is_idle (Some Waits) = true
 is_idle (Some (Armed d)) = true
 is_idle _ = false
 
-abbrev pub is_replied : Option Stage → Bool
+abbrev pub is_replied : Option RequestStage → Bool
 is_replied (Some (Replied res)) = true
 is_replied _ = false
 
-abbrev pub is_answered : Option Stage → Bool
+abbrev pub is_answered : Option RequestStage → Bool
 is_answered None = false
 is_answered (Some s) = not (is_pending s)
 
 -- -125, -62 and 0
-abbrev pub cancelled : Stage
+abbrev pub cancelled : RequestStage
 cancelled = Replied (negsuc 124)
 
-abbrev pub timed_out : Stage
+abbrev pub timed_out : RequestStage
 timed_out = Replied (negsuc 61)
 
-abbrev pub counted : Stage
+abbrev pub counted : RequestStage
 counted = Replied (pos 0)
 
 abbrev pub may_park : List Request → ℕ → Bool
@@ -94,7 +94,7 @@ may_sever xs k = is_waits (stage_at (slice_get xs k)) && severed_in xs k
 abbrev pub may_reap : List Request → ℕ → Bool
 may_reap xs k = is_replied (stage_at (slice_get xs k))
 
-abbrev pub taken_out : Stage → Stage
+abbrev pub taken_out : RequestStage → RequestStage
 taken_out (Replied res) = Reaped res
 taken_out s = s
 

@@ -4,22 +4,22 @@ use Rattle.entry.specs.Entry.{Entry}
 use Rattle.entry.specs.declared.op.Op.{Op}
 use Rattle.history.specs.declared.req.Req.{Req}
 use Rattle.history.specs.declared.event.Event.{Event}
-use Rattle.model.specs.declared.request.Stage.{Stage}
-use Rattle.model.specs.declared.request.Stage.TheVariants.{Waits, Runs, Armed, Replied, Reaped}
+use Rattle.model.specs.declared.request.RequestStage.{RequestStage}
+use Rattle.model.specs.declared.request.RequestStage.TheVariants.{Waits, Runs, Armed, Replied, Reaped}
 use Rattle.model.specs.declared.request.Request.{Request}
 use Rattle.history.specs.{Phase, unborn, waits, runs, armed, replied, reaped, Submitted, submission, phase, hit, fired, data_of, placed_from, Catch, none_yet, catch_in}
 
-abbrev pub is_pending : Stage → Bool
+abbrev pub is_pending : RequestStage → Bool
 is_pending (Replied res) = false
 is_pending (Reaped res) = false
 is_pending _ = true
 
-abbrev pub reply_at : Stage → Option ℤ
+abbrev pub reply_at : RequestStage → Option ℤ
 reply_at (Replied res) = Some res
 reply_at (Reaped res) = Some res
 reply_at _ = None
 
-abbrev pub stage_of : Phase → Option Stage
+abbrev pub stage_of : Phase → Option RequestStage
 stage_of unborn = None
 stage_of waits = Some Waits
 stage_of runs = Some Runs
@@ -30,7 +30,7 @@ stage_of (reaped c res) = Some (Reaped res)
 -- what later events ask of a request
 pub record Seen : Type 0 where
   pub handed : Option Submitted
-  pub stage : Option Stage
+  pub stage : Option RequestStage
   pub found : Catch
   pub fired : Bool
   pub taken : List ℕ
@@ -46,7 +46,7 @@ abbrev pub handed_at : Option Request → Option Submitted
 handed_at None = None
 handed_at (Some x) = Some (handed_of x)
 
-abbrev pub stage_at : Option Request → Option Stage
+abbrev pub stage_at : Option Request → Option RequestStage
 stage_at None = None
 stage_at (Some x) = Some x.stage
 

@@ -4,7 +4,7 @@ use Rattle.history.specs.declared.event.Event.{Event}
 use Rattle.history.specs.declared.event.Event.TheVariants.{Submit, Begin, Park, Reply, Take, Miss, Tick, Arm, Expire, Count, Fire, FireMiss, Settle, Sever, Reap, Shut, Cut}
 use Rattle.history.specs.State.{with_took, with_missed}
 use Rattle.model.specs.declared.request.Request.{Request}
-use Rattle.model.specs.declared.request.Stage.TheVariants.{Waits, Runs, Armed}
+use Rattle.model.specs.declared.request.RequestStage.TheVariants.{Waits, Runs, Armed}
 use Rattle.model.specs.Cancels.{may_take, may_miss}
 use Rattle.model.specs.Moves.{put_stage, put_found, put_fired, put_settled, put_reaped, cancelled, timed_out, counted, may_begin, may_park, may_sever, may_reap, may_cut, may_arm, may_expire, may_count, may_fire, may_fire_miss, may_settle}
 

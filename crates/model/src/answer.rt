@@ -1,5 +1,6 @@
 //! What each operation comes to: the table of answers.
-ghost use Rattle.std.specs.Prelude.{◌≡◌, ◌<◌, true, ℤ, Option, Some, slice_get, MatchOption};
+ghost use Rattle.std.specs.Prelude.{◌≡◌, ◌≤◌, true, ℤ, Option, Some, slice_get, MatchOption};
+ghost use Rattle.limits.specs.declared.TheConstants.{LENGTH};
 ghost use Rattle.entry.specs.Table.{fits_op};
 ghost use Rattle.history.specs.Answers.{read_from, write_to, close_of, poll_of, at_end, bad_end, bare};
 ghost use Rattle.level.specs.declared.level.Level.{Level};
@@ -10,7 +11,7 @@ use crate::ends::{NamedEnd, named_end};
 use crate::errno::INVALID;
 use crate::pipe::Pipe;
 use crate::ready::Ready;
-use crate::request::{Request, Stage};
+use crate::request::{Request, RequestStage};
 use crate::ring::Ring;
 use crate::splice::splice_at;
 use entry::{Op, by_opcode};
@@ -47,7 +48,7 @@ impl Ring {
         let Some(request) = self.get(k) else {
             return Ready::Wait;
         };
-        if request.stage != Stage::Runs {
+        if request.stage != RequestStage::Runs {
             return Ready::Wait;
         }
         let _row = request.sqe.row();
@@ -57,7 +58,7 @@ impl Ring {
 
 #[tactic(auto, using(crate::proofs::PipeEnds::pipe_there, crate::proofs::PipeEnds::read_there))]
 fn read_at(pipes: &[Pipe], end: NamedEnd, len: u32) -> Ready
-    requires { len < 2147483648 }
+    requires { len ≤ LENGTH }
     ensures { answer_as pipes.now result ≡ read_from (caps_of pipes.now) (flow_in pipes.now) (end_as end) len }
 {
     match end {
@@ -71,7 +72,7 @@ fn read_at(pipes: &[Pipe], end: NamedEnd, len: u32) -> Ready
 
 #[tactic(auto, using(crate::proofs::PipeEnds::pipe_there, crate::proofs::PipeEnds::write_there))]
 fn write_at(pipes: &[Pipe], end: NamedEnd, len: u32) -> Ready
-    requires { len < 2147483648 }
+    requires { len ≤ LENGTH }
     ensures { answer_as pipes.now result ≡ write_to (caps_of pipes.now) (flow_in pipes.now) (end_as end) len }
 {
     match end {

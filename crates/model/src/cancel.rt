@@ -7,7 +7,7 @@ ghost use Rattle.model.specs.Content.{Content};
 use crate::errno::{ALREADY, CANCELLED, NOT_FOUND};
 use crate::kind::is_all;
 use crate::ready::Ready;
-use crate::request::{Request, Stage};
+use crate::request::{Request, RequestStage};
 use crate::ring::Ring;
 use entry::Op;
 use std::alloc::AllocError;
@@ -22,7 +22,7 @@ impl Ring {
         let Some(request) = self.get(cancel) else {
             return false;
         };
-        if request.stage != Stage::Runs {
+        if request.stage != RequestStage::Runs {
             return false;
         }
         let (op, found) = (self.op(cancel as usize), &request.found);
@@ -51,7 +51,7 @@ impl Ring {
             return Ok(false);
         }
         self.add_ended(cancel as usize)?;
-        self.set_stage(target as usize, Stage::Replied(CANCELLED));
+        self.set_stage(target as usize, RequestStage::Replied(CANCELLED));
         Ok(true)
     }
 
@@ -65,7 +65,7 @@ impl Ring {
         let Some(request) = self.get(target) else {
             return Ok(false);
         };
-        if request.stage != Stage::Runs || !self.comes_upon(cancel, target) {
+        if request.stage != RequestStage::Runs || !self.comes_upon(cancel, target) {
             return Ok(false);
         }
         self.add_escaped(cancel as usize, target)?;

@@ -1,11 +1,11 @@
 //! What the events make of the requests of a ring.
 ghost use Rattle.std.specs.Prelude.{◌≡◌, ◌<◌, cond, length};
-ghost use Rattle.model.specs.declared.request.Stage.TheVariants.{Waits, Runs, Replied, Reaped};
+ghost use Rattle.model.specs.declared.request.RequestStage.TheVariants.{Waits, Runs, Replied, Reaped};
 ghost use Rattle.model.specs.Moves.{put_stage, put_reaped, may_begin, may_park, may_sever, may_reap, may_cut, open_in, cancelled};
 
 use crate::errno::CANCELLED;
 use crate::kind::ticks_of;
-use crate::request::Stage;
+use crate::request::RequestStage;
 use crate::ring::Ring;
 
 impl Ring {
@@ -29,10 +29,13 @@ impl Ring {
             return false;
         };
         let k = k as usize;
-        if request.stage != Stage::Waits || !self.is_open(k) || ticks_of(self.op(k)).is_some() {
+        if request.stage != RequestStage::Waits
+            || !self.is_open(k)
+            || ticks_of(self.op(k)).is_some()
+        {
             return false;
         }
-        self.set_stage(k, Stage::Runs);
+        self.set_stage(k, RequestStage::Runs);
         true
     }
 
@@ -43,10 +46,10 @@ impl Ring {
         let Some(request) = self.get(k) else {
             return false;
         };
-        if request.stage != Stage::Runs {
+        if request.stage != RequestStage::Runs {
             return false;
         }
-        self.set_stage(k as usize, Stage::Waits);
+        self.set_stage(k as usize, RequestStage::Waits);
         true
     }
 
@@ -57,10 +60,10 @@ impl Ring {
         let Some(request) = self.get(k) else {
             return false;
         };
-        if request.stage != Stage::Waits || !self.is_severed(k as usize) {
+        if request.stage != RequestStage::Waits || !self.is_severed(k as usize) {
             return false;
         }
-        self.set_stage(k as usize, Stage::Replied(CANCELLED));
+        self.set_stage(k as usize, RequestStage::Replied(CANCELLED));
         true
     }
 
@@ -72,10 +75,10 @@ impl Ring {
         let Some(request) = self.get(k) else {
             return false;
         };
-        let Stage::Replied(res) = request.stage else {
+        let RequestStage::Replied(res) = request.stage else {
             return false;
         };
-        self.set_stage(k as usize, Stage::Reaped(res));
+        self.set_stage(k as usize, RequestStage::Reaped(res));
         true
     }
 
@@ -89,7 +92,7 @@ impl Ring {
         if !request.stage.is_pending() {
             return false;
         }
-        self.set_stage(k as usize, Stage::Replied(CANCELLED));
+        self.set_stage(k as usize, RequestStage::Replied(CANCELLED));
         true
     }
 }

@@ -3,12 +3,12 @@ ghost use Rattle.std.specs.Prelude.{◌≡◌, ◌<◌, false, length, Some, Non
 ghost use Rattle.entry.specs.declared.op.Op.{Op};
 ghost use Rattle.history.specs.declared.event.Event.TheVariants.{Reply};
 ghost use Rattle.history.specs.{given_at, now};
-ghost use Rattle.model.specs.{Decided, MayFollow, bytes_at, end_as, placed_in, handed_in, with_op, answer_in, put_reply, bytes_in, taken_from, put_into, shut_at, moved_over, moved};
+ghost use Rattle.model.specs.{Decided, MayFollow, bytes_at, end_as, placed_in, handed_in, with_op, answer_in, put_reply, bytes_in, taken_from, put_into, closed_at, moved_over, moved};
 
 use crate::ends::{NamedEnd, named_end};
 use crate::pipe::{Pipe, bytes_at};
 use crate::ready::{front, size};
-use crate::request::Stage;
+use crate::request::RequestStage;
 use crate::ring::Ring;
 use crate::state::State;
 use entry::{Op, by_opcode};
@@ -33,7 +33,7 @@ impl Ring {
         ensures { self.new ≡ put_reply self.old k res taken }
     {
         self.set_taken(k, taken);
-        self.set_stage(k, Stage::Replied(res));
+        self.set_stage(k, RequestStage::Replied(res));
     }
 }
 
@@ -81,7 +81,7 @@ macro_rules! carry_work {
     ((pipe read $fd:ident $len:ident) ($alloc:ident, $pipes:ident, $bytes:ident, $res:ident)) => { take_out($pipes, named_end($fd), size($res)) };
     ((pipe write $fd:ident $len:ident) ($alloc:ident, $pipes:ident, $bytes:ident, $res:ident)) => { put_in($pipes, named_end($fd), front($bytes, size($res)))? };
     ((pipe splice $fd_in:ident $fd_out:ident $len:ident) ($alloc:ident, $pipes:ident, $bytes:ident, $res:ident)) => { move_over($alloc, $pipes, named_end($fd_in), named_end($fd_out), size($res))? };
-    ((pipe close $fd:ident) ($alloc:ident, $pipes:ident, $bytes:ident, $res:ident)) => { if $res == 0 { shut_end($pipes, named_end($fd)) } };
+    ((pipe close $fd:ident) ($alloc:ident, $pipes:ident, $bytes:ident, $res:ident)) => { if $res == 0 { close_end($pipes, named_end($fd)) } };
     ((pipe poll $fd:ident $mask:ident) $args:tt) => { () };
     ((plain $kind:ident) $args:tt) => { () };
     ((timer $kind:ident $ticks:ident) $args:tt) => { () };
@@ -152,18 +152,18 @@ fn move_over(
     Ok(())
 }
 
-fn shut_end(pipes: &mut Vec<Pipe>, end: NamedEnd)
-    ensures { pipes.new.items ≡ shut_at pipes.old.items (end_as end) }
+fn close_end(pipes: &mut Vec<Pipe>, end: NamedEnd)
+    ensures { pipes.new.items ≡ closed_at pipes.old.items (end_as end) }
 {
     match end {
         NamedEnd::Read(p) => {
             if p < pipes.len() {
-                pipes[p].shut_read();
+                pipes[p].close_read();
             }
         }
         NamedEnd::Write(p) => {
             if p < pipes.len() {
-                pipes[p].shut_write();
+                pipes[p].close_write();
             }
         }
         NamedEnd::Nothing => {}

@@ -10,7 +10,7 @@ use history::Bytes;
 
 /// Where a request stands. An unborn one is not kept.
 #[derive(Clone, Copy, PartialEq, Eq)]
-pub enum Stage {
+pub enum RequestStage {
     Waits,
     Runs,
     /// The deadline.
@@ -27,7 +27,7 @@ pub struct Request {
     pub sqe: Sqe,
     pub bytes: Shared,
     pub last: bool,
-    pub stage: Stage,
+    pub stage: RequestStage,
     /// What it has done so far, where it is a cancel.
     pub found: Found,
     /// A timer that ran out in time.
@@ -36,14 +36,14 @@ pub struct Request {
     pub taken: Bytes,
 }
 
-impl Stage {
+impl RequestStage {
     /// It was not answered.
     pub fn is_pending(self) -> bool
         ensures { result ≡ is_pending self }
     {
         match self {
-            Stage::Waits | Stage::Runs | Stage::Armed(_) => true,
-            Stage::Replied(_) | Stage::Reaped(_) => false,
+            RequestStage::Waits | RequestStage::Runs | RequestStage::Armed(_) => true,
+            RequestStage::Replied(_) | RequestStage::Reaped(_) => false,
         }
     }
 
@@ -51,7 +51,7 @@ impl Stage {
     pub fn is_idle(self) -> bool
         ensures { result ≡ is_idle (Some self) }
     {
-        matches!(self, Stage::Waits | Stage::Armed(_))
+        matches!(self, RequestStage::Waits | RequestStage::Armed(_))
     }
 
     /// It is armed with a deadline that has come.
@@ -59,8 +59,11 @@ impl Stage {
         ensures { result ≡ is_due clock (Some self) }
     {
         match self {
-            Stage::Armed(deadline) => deadline <= clock,
-            Stage::Waits | Stage::Runs | Stage::Replied(_) | Stage::Reaped(_) => false,
+            RequestStage::Armed(deadline) => deadline <= clock,
+            RequestStage::Waits
+            | RequestStage::Runs
+            | RequestStage::Replied(_)
+            | RequestStage::Reaped(_) => false,
         }
     }
 
@@ -68,8 +71,8 @@ impl Stage {
         ensures { result ≡ reply_at self }
     {
         match self {
-            Stage::Replied(res) | Stage::Reaped(res) => Some(res),
-            Stage::Waits | Stage::Runs | Stage::Armed(_) => None,
+            RequestStage::Replied(res) | RequestStage::Reaped(res) => Some(res),
+            RequestStage::Waits | RequestStage::Runs | RequestStage::Armed(_) => None,
         }
     }
 }

@@ -1,12 +1,12 @@
 //! What the timers' events make of the requests of a ring.
 ghost use Rattle.std.specs.Prelude.{◌≡◌, ◌<◌, true, cond, length, slice_get};
 ghost use Rattle.std.specs.List.{filter};
-ghost use Rattle.model.specs.declared.request.Stage.TheVariants.{Armed};
+ghost use Rattle.model.specs.declared.request.RequestStage.TheVariants.{Armed};
 ghost use Rattle.model.specs.{put_stage, put_fired, put_settled, may_arm, may_expire, is_done, later_answered, may_count, runs_out, may_fire, may_fire_miss, may_settle, cancelled, timed_out, counted, is_answered, stage_at};
 
 use crate::errno::{CANCELLED, TIMED_OUT};
 use crate::kind::{count_of, is_timeout, ticks_of};
-use crate::request::{Request, Stage};
+use crate::request::{Request, RequestStage};
 use crate::ring::Ring;
 
 impl Ring {
@@ -17,7 +17,7 @@ impl Ring {
         let Some(request) = self.get(k) else {
             return false;
         };
-        if request.stage != Stage::Waits || !self.is_open(k as usize) {
+        if request.stage != RequestStage::Waits || !self.is_open(k as usize) {
             return false;
         }
         let Some(ticks) = ticks_of(self.op(k as usize)) else {
@@ -26,7 +26,7 @@ impl Ring {
         if u64::from(deadline) != u64::from(clock) + u64::from(ticks) {
             return false;
         }
-        self.set_stage(k as usize, Stage::Armed(deadline));
+        self.set_stage(k as usize, RequestStage::Armed(deadline));
         true
     }
 
@@ -40,7 +40,7 @@ impl Ring {
         if !request.stage.is_due(clock) || !is_timeout(self.op(k as usize)) {
             return false;
         }
-        self.set_stage(k as usize, Stage::Replied(TIMED_OUT));
+        self.set_stage(k as usize, RequestStage::Replied(TIMED_OUT));
         true
     }
 
@@ -60,14 +60,14 @@ impl Ring {
         let Some(request) = self.get(k) else {
             return false;
         };
-        if !matches!(request.stage, Stage::Armed(_)) {
+        if !matches!(request.stage, RequestStage::Armed(_)) {
             return false;
         }
         let count = count_of(self.op(k as usize)) as usize;
         if count == 0 || self.later_answered(k as usize) < count {
             return false;
         }
-        self.set_stage(k as usize, Stage::Replied(0));
+        self.set_stage(k as usize, RequestStage::Replied(0));
         true
     }
 
@@ -97,7 +97,7 @@ impl Ring {
             return false;
         }
         self.set_fired(timer as usize);
-        self.set_stage(target as usize, Stage::Replied(CANCELLED));
+        self.set_stage(target as usize, RequestStage::Replied(CANCELLED));
         true
     }
 
@@ -108,7 +108,7 @@ impl Ring {
         let Some(request) = self.get(target) else {
             return false;
         };
-        if request.stage != Stage::Runs || !self.runs_out(clock, timer, target) {
+        if request.stage != RequestStage::Runs || !self.runs_out(clock, timer, target) {
             return false;
         }
         self.set_fired(timer as usize);
@@ -122,7 +122,9 @@ impl Ring {
         let Some(request) = self.get(k) else {
             return false;
         };
-        if !matches!(request.stage, Stage::Armed(_)) || !self.op(k as usize).is_link_timeout() {
+        if !matches!(request.stage, RequestStage::Armed(_))
+            || !self.op(k as usize).is_link_timeout()
+        {
             return false;
         }
         let fired = request.fired;
@@ -130,7 +132,7 @@ impl Ring {
             return false;
         }
         let res = if fired { TIMED_OUT } else { CANCELLED };
-        self.set_stage(k as usize, Stage::Replied(res));
+        self.set_stage(k as usize, RequestStage::Replied(res));
         true
     }
 

@@ -7,7 +7,7 @@ ghost use Rattle.model.specs.Moves.{runs_in};
 ghost use Rattle.history.specs.declared.event.Event.TheVariants.{Submit, Tick, Shut};
 
 use crate::found::Found;
-use crate::request::{Request, Stage};
+use crate::request::{Request, RequestStage};
 use crate::ring::Ring;
 use crate::shared::Shared;
 use crate::state::State;
@@ -67,7 +67,7 @@ impl State {
             sqe,
             bytes: Shared::copy(alloc, bytes.as_slice())?,
             last,
-            stage: Stage::Waits,
+            stage: RequestStage::Waits,
             found: Found::none_yet(alloc),
             fired: false,
             taken: Bytes::empty(alloc),

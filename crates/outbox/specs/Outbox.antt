@@ -1,24 +1,24 @@
--- What contracts see of an outbox, and what a delivery makes of it and of the completion ring.
+-- What contracts see of a queue of requests, and what a delivery makes of an outbox and of the completion ring.
 use Rattle.std.specs.Prelude.{◌≡◌, ℕ, ◌≤◌, ◌==◌, not, List, [], ◌++◌, ◌∷◌, length, take, drop, filter}
 use Rattle.history.specs.declared.req.Req.{Req}
 use Rattle.compring.specs.Posts.{Posts, StandsFor, waiting}
 
--- the places, and the answered requests that wait to be posted, the oldest first
-pub record Waiting : Type 0 where
+-- the places, and the requests, the oldest first
+pub record Places : Type 0 where
   pub places : ℕ
-  pub answered : List Req
+  pub items : List Req
 
--- an outbox without requests
-abbrev pub empty : ℕ → Waiting
-empty places = record { places = places; answered = [] }
+-- a queue without requests
+abbrev pub no_requests : ℕ → Places
+no_requests places = record { places = places; items = [] }
 
 -- a request more, after all others
-abbrev pub with_answered : Req → Waiting → Waiting
-with_answered r o = record o { answered = o.answered ++ r ∷ [] }
+abbrev pub with_request : Req → Places → Places
+with_request r o = record o { items = o.items ++ r ∷ [] }
 
 -- there is room for as many requests as there are places
-pub record IsOutbox (places : ℕ) (answered : List Req) (capacity : ℕ) : Type 0 where
-  pub fits : length answered ≤ places
+pub record FitsPlaces (places : ℕ) (items : List Req) (capacity : ℕ) : Type 0 where
+  pub fits : length items ≤ places
   pub room : places ≤ capacity
 
 -- the completion ring has just these posts more, in this order, after all that wait
@@ -37,7 +37,7 @@ abbrev pub others : ℕ → List Req → List Req
 others n rs = filter (λ r. not (r.ring == n)) rs
 
 -- of the first i requests those of this ring were posted and taken out; all others stay, in order
-pub record Delivers (n i : ℕ) (old new : Waiting) (p q : Posts) : Type 0 where
-  pub posted : HasPosted (of_ring n (take i old.answered)) p q
-  pub rest : new.answered ≡ others n (take i old.answered) ++ drop i old.answered
+pub record Delivers (n i : ℕ) (old new : Places) (p q : Posts) : Type 0 where
+  pub posted : HasPosted (of_ring n (take i old.items)) p q
+  pub rest : new.items ≡ others n (take i old.items) ++ drop i old.items
   pub places : new.places ≡ old.places

@@ -1,4 +1,4 @@
-//! The outbox: the requests that a thread's turn answered, until they are posted to the completion rings.
+//! A bounded queue of requests; as an outbox it has those that a thread's turn answered, until they are posted to the completion rings.
 #![tactic(auto)]
 
 pub mod delivery;
@@ -7,4 +7,4 @@ pub mod requests;
 
 pub use delivery::{deliver, deliver_all};
 pub use error::Memory;
-pub use requests::Outbox;
+pub use requests::{Outbox, RequestQueue};

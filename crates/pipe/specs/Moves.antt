@@ -6,7 +6,7 @@ use Rattle.pipe.specs.Pipe.{Conduit}
 
 -- a pipe that nothing has happened to
 abbrev pub new_conduit : ℕ → Conduit
-new_conduit n = record { cap = n; content = []; read_shut = false; write_shut = false }
+new_conduit n = record { cap = n; content = []; read_closed = false; write_closed = false }
 
 -- a fact for a call that has no reply, or an error
 abbrev pub OnIdle : Option ℤ → Type 0 → Type 0
@@ -24,5 +24,5 @@ after_write n bytes c = record c { content = c.content ++ take n bytes }
 
 -- the end is closed
 abbrev pub after_close : End → Conduit → Conduit
-after_close Read c = record c { read_shut = true }
-after_close Write c = record c { write_shut = true }
+after_close Read c = record c { read_closed = true }
+after_close Write c = record c { write_closed = true }

@@ -5,8 +5,8 @@ use Rattle.level.specs.declared.level.Level.{Level}
 pub record Conduit : Type 0 where
   pub cap : ℕ
   pub content : List ℕ
-  pub read_shut : Bool
-  pub write_shut : Bool
+  pub read_closed : Bool
+  pub write_closed : Bool
 
 -- what is true of every pipe: the limits of the capacity (this profile), and that no more is in it
 pub record IsConduit (c : Conduit) : Type 0 where
@@ -16,4 +16,4 @@ pub record IsConduit (c : Conduit) : Type 0 where
 
 -- what its replies are decided by
 abbrev pub level_of : Conduit → Level
-level_of c = record { capacity = c.cap; count = length c.content; read_shut = c.read_shut; write_shut = c.write_shut }
+level_of c = record { capacity = c.cap; count = length c.content; read_closed = c.read_closed; write_closed = c.write_closed }

@@ -1,7 +1,7 @@
 //! The pipe.
 ghost use Rattle.std.specs.Prelude.{◌≡◌, ◌<◌, ◌≤◌, ◌+◌, ◌↔◌, ◌⊎◌, ◌++◌, length, take, drop, IfOk, IsErrOf};
 ghost use Rattle.circular_buffer.specs.Buffer.{buffer};
-ghost use Rattle.level.specs.Replies.{close_reply, is_shut, moved, poll_reply, read_reply, size, splice_reply, write_reply};
+ghost use Rattle.level.specs.Replies.{close_reply, is_closed, moved, poll_reply, read_reply, size, splice_reply, write_reply};
 ghost use Rattle.pipe.specs.{IsConduit, level_of, new_conduit, OnIdle, after_read, after_write, after_close};
 
 use crate::error::PipeError;
@@ -15,8 +15,8 @@ use std::marker::Model;
 #[derive(Drop)]
 pub struct Pipe {
     bytes: HeapCircularBuffer<u8>,
-    read_shut: bool,
-    write_shut: bool,
+    read_closed: bool,
+    write_closed: bool,
 }
 
 impl Model for Pipe {
@@ -44,8 +44,8 @@ impl Pipe {
         let bytes = HeapCircularBuffer::with_capacity(alloc, cap as usize)?;
         Ok(Pipe {
             bytes,
-            read_shut: false,
-            write_shut: false,
+            read_closed: false,
+            write_closed: false,
         })
     }
 
@@ -102,8 +102,8 @@ impl Pipe {
     {
         let reply = self.level().close(end);
         match end {
-            End::Read => self.read_shut = true,
-            End::Write => self.write_shut = true,
+            End::Read => self.read_closed = true,
+            End::Write => self.write_closed = true,
         }
         reply
     }
@@ -117,11 +117,11 @@ impl Pipe {
     }
 
     /// Whether an end is closed.
-    pub fn is_shut(&self, end: End) -> bool
-        ensures closed { result ≡ is_shut end (level_of self.now) }
+    pub fn is_closed(&self, end: End) -> bool
+        ensures closed { result ≡ is_closed end (level_of self.now) }
         ensures limits { IsConduit self.now }
     {
-        self.level().is_shut(end)
+        self.level().is_closed(end)
     }
 
     /// What its replies are decided by.
@@ -132,8 +132,8 @@ impl Pipe {
         Level {
             capacity: self.bytes.capacity() as u64,
             count: self.bytes.len() as u64,
-            read_shut: self.read_shut,
-            write_shut: self.write_shut,
+            read_closed: self.read_closed,
+            write_closed: self.write_closed,
         }
     }
 }

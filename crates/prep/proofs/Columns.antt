@@ -4,13 +4,13 @@ use Rattle.std.proofs.lemmas.Bool.Decides.{eqb_tells}
 use Rattle.entry.specs.declared.op.Op.{Op}
 use Rattle.entry.specs.declared.op.Offset.{Offset}
 use Rattle.entry.specs.declared.op.Offset.TheVariants.{Zero, Current}
-use Rattle.entry.specs.declared.row.Row.{Row}
+use Rattle.entry.specs.declared.row.Fields.{Fields}
 use Rattle.entry.specs.Entry.{Entry}
 use Rattle.entry.specs.Table.{allowed_flags, etime_word, fits, fits_op, is_i32, is_valid, no_fd, place, row}
 use Rattle.prep.proofs.Common.{Bool, Invalid, IsOfRow, IsTrue, LinkTimeout, PollAdd, Read, Splice, Timeout, Write, ap, arith, bit_and, eqb-true, false, false≢true, flagged, if◌then◌else◌, inl, inr, is_place, link_timeout_op, lt-ltb, nat_lt, negsuc, offset_of, plain, poll_op, pos, read_op, refl, splice_op, sym, timeout_count_op, true, w32, write_op, ℕ, ℤ, ◌&&◌, ◌==◌, ◌||◌, ◌∙◌, ◌≡◌, ◌⊎◌}
 
 -- op is the operation of the row, or Invalid where the row is none's
-pub record Reads (r : Row) (op : Op) : Type 0 where
+pub record Reads (r : Fields) (op : Op) : Type 0 where
   pub made : IsTrue (is_valid op) → IsTrue (fits_op op) × (r ≡ row op)
   pub only : (o : Op) → IsTrue (is_valid o) → IsTrue (fits_op o) → r ≡ row o → IsTrue (is_valid op)
 
@@ -39,7 +39,7 @@ entry-same e u f op user_data flags is =
     same
 
 -- the entry of the row is the operation's
-pub built : (r : Row) (e : Entry) (op : Op) → IsOfRow r e → Reads r op → e ≡ plain op
+pub built : (r : Fields) (e : Entry) (op : Op) → IsOfRow r e → Reads r op → e ≡ plain op
 built r e op is reads = elim (valid_or_not op) [
   | inl valid ↦ let made = reads.made valid in is.again (plain op) (plain-fits op made.0) made.1 refl refl
   | inr not ↦ elim (valid_or_not e.op) [
@@ -62,7 +62,7 @@ allowed-opcode Invalid = refl
 allowed-opcode op = refl
 
 -- the entry of a row with these flags is the one that has it, where its row allows them
-pub flagged-row : (e o : Entry) (r : Row) (flags u : ℕ) → r ≡ row e.op → u ≡ e.user_data → IsTrue (fits e) → IsTrue (fits o) → o.user_data ≡ u
+pub flagged-row : (e o : Entry) (r : Fields) (flags u : ℕ) → r ≡ row e.op → u ≡ e.user_data → IsTrue (fits e) → IsTrue (fits o) → o.user_data ≡ u
     → (IsTrue (is_valid o.op) → (r ≡ row o.op) × (flags ≡ o.flags)) → (o.op ≡ Invalid → o.flags ≡ bit_and flags 12)
     → ((x : Entry) → IsTrue (fits x) → r ≡ row x.op → flags ≡ x.flags → u ≡ x.user_data → o ≡ x) → o ≡ flagged e flags
 flagged-row e o r flags u is number ok fit user_data valid invalid again = elim (eqb_tells (bit_and flags (allowed_flags e.op)) flags) [
@@ -75,7 +75,7 @@ flagged-row e o r flags u is number ok fit user_data valid invalid again = elim 
         let made = valid v in
         let parts = both_true (fits_op o.op) _ fit in
         let more = both_true (bit_and o.flags (allowed_flags o.op) == o.flags) _ parts.1 in
-        let same = allowed-opcode o.op ∙ ap (λ (q : Row). allowed_at q.opcode) (sym made.0 ∙ is) ∙ sym (allowed-opcode e.op) in
+        let same = allowed-opcode o.op ∙ ap (λ (q : Fields). allowed_at q.opcode) (sym made.0 ∙ is) ∙ sym (allowed-opcode e.op) in
         let kept = ap (λ (f : ℕ). bit_and f (allowed_flags e.op) == f) made.1 ∙ ap (λ (a : ℕ). bit_and o.flags a == o.flags) (sym same) ∙ more.0 in
         absurd (false≢true (sym t.0 ∙ kept))
     | inr none ↦ entry-same o e.user_data (bit_and flags 12) Invalid (user_data ∙ number) (invalid none) none
@@ -95,7 +95,7 @@ is_place-place off Zero h = rw h refl
 is_place-place off Current h = rw h refl
 
 -- an operation where a test holds, and else Invalid
-Reads-chosen : (r : Row) (b : Bool) (op : Op) → (IsTrue b → IsTrue (fits_op op) × (r ≡ row op)) → IsTrue (is_valid op)
+Reads-chosen : (r : Fields) (b : Bool) (op : Op) → (IsTrue b → IsTrue (fits_op op) × (r ≡ row op)) → IsTrue (is_valid op)
     → ((o : Op) → IsTrue (is_valid o) → IsTrue (fits_op o) → r ≡ row o → IsTrue b) → Reads r (if b then op else Invalid)
 Reads-chosen r true op made valid only = record { made = λ _. made refl; only = λ o v ok is. valid }
 Reads-chosen r false op made valid only = record { made = λ v. absurd (false≢true v); only = λ o v ok is. only o v ok is }
@@ -110,7 +110,7 @@ is_moved (Read fd offset n) ok code = both (is_place-place _ offset refl) (both_
 is_moved (Write fd offset n) ok code = both (is_place-place _ offset refl) (both_true (is_i32 fd) (nat_lt n 2147483648) ok).1
 is_moved o ok code = absurd (false≢true code)
 
-Reads-moved : (r : Row) (op : Op) → IsTrue ((r.opcode == 22) || (r.opcode == 23)) → (IsTrue (nat_lt r.len 2147483648) → IsTrue (fits_op op)) → (r.off ≡ place (offset_of r.off) → r ≡ row op) → IsTrue (is_valid op)
+Reads-moved : (r : Fields) (op : Op) → IsTrue ((r.opcode == 22) || (r.opcode == 23)) → (IsTrue (nat_lt r.len 2147483648) → IsTrue (fits_op op)) → (r.off ≡ place (offset_of r.off) → r ≡ row op) → IsTrue (is_valid op)
     → Reads r (if is_place r.off && nat_lt r.len 2147483648 then op else Invalid)
 Reads-moved r op code fits is valid =
     Reads-chosen r (is_place r.off && nat_lt r.len 2147483648) op
@@ -118,7 +118,7 @@ Reads-moved r op code fits is valid =
     let parts = both_true (is_place r.off) (nat_lt r.len 2147483648) t in
     (fits parts.1, is (place-offset_of r.off parts.0)))
     valid
-    (λ o v ok same. ap (λ (q : Row). is_place q.off && nat_lt q.len 2147483648) same ∙ is_moved o ok (ap (λ (q : Row). (q.opcode == 22) || (q.opcode == 23)) (sym same) ∙ code))
+    (λ o v ok same. ap (λ (q : Fields). is_place q.off && nat_lt q.len 2147483648) same ∙ is_moved o ok (ap (λ (q : Fields). (q.opcode == 22) || (q.opcode == 23)) (sym same) ∙ code))
 
 pub Reads-read : (z fd : ℤ) (len off : ℕ) → FitsSigned w32 fd → z ≡ fd
     → Reads (record { opcode = 22; fd = z; off = off; addr = 0; len = len; word = 0; splice_fd_in = pos 0 }) (read_op fd len off)
@@ -131,8 +131,8 @@ Reads-write z fd len off fits is = Reads-moved _ (Write fd (offset_of off) len) 
 is_splice : (y z : ℤ) (len : ℕ) (o : Op) → IsTrue (is_valid o) → IsTrue (fits_op o)
     → record { opcode = 30; fd = z; off = 18446744073709551615; addr = 18446744073709551615; len = len; word = 0; splice_fd_in = y } ≡ row o → IsTrue (nat_lt len 2147483648)
 is_splice y z len (Splice fd_in fd_out n) valid ok is =
-    ap (λ (r : Row). nat_lt r.len 2147483648) is ∙ (both_true (is_i32 fd_out) (nat_lt n 2147483648) (both_true (is_i32 fd_in) (is_i32 fd_out && nat_lt n 2147483648) ok).1).1
-is_splice y z len o valid ok is = let code = ap (λ (r : Row). r.opcode) is in absurd (omega arith)
+    ap (λ (r : Fields). nat_lt r.len 2147483648) is ∙ (both_true (is_i32 fd_out) (nat_lt n 2147483648) (both_true (is_i32 fd_in) (is_i32 fd_out && nat_lt n 2147483648) ok).1).1
+is_splice y z len o valid ok is = let code = ap (λ (r : Fields). r.opcode) is in absurd (omega arith)
 
 pub Reads-splice : (y z fd_in fd_out : ℤ) (len : ℕ) → FitsSigned w32 fd_in → FitsSigned w32 fd_out → y ≡ fd_in → z ≡ fd_out
     → Reads (record { opcode = 30; fd = z; off = 18446744073709551615; addr = 18446744073709551615; len = len; word = 0; splice_fd_in = y }) (splice_op fd_in fd_out len)
@@ -142,8 +142,8 @@ Reads-splice y z fd_in fd_out len in_fits out_fits is same =
 is_poll : (z : ℤ) (mask : ℕ) (o : Op) → IsTrue (is_valid o) → IsTrue (fits_op o)
     → record { opcode = 6; fd = z; off = 0; addr = 0; len = 0; word = mask; splice_fd_in = pos 0 } ≡ row o → IsTrue (bit_and mask 29 == mask)
 is_poll z mask (PollAdd fd m) valid ok is =
-    ap (λ (r : Row). bit_and r.word 29 == r.word) is ∙ (both_true (is_i32 fd) (bit_and m 29 == m) ok).1
-is_poll z mask o valid ok is = let code = ap (λ (r : Row). r.opcode) is in absurd (omega arith)
+    ap (λ (r : Fields). bit_and r.word 29 == r.word) is ∙ (both_true (is_i32 fd) (bit_and m 29 == m) ok).1
+is_poll z mask o valid ok is = let code = ap (λ (r : Fields). r.opcode) is in absurd (omega arith)
 
 pub Reads-poll : (z fd : ℤ) (mask : ℕ) → FitsSigned w32 fd → z ≡ fd
     → Reads (record { opcode = 6; fd = z; off = 0; addr = 0; len = 0; word = mask; splice_fd_in = pos 0 }) (poll_op fd mask)
@@ -169,9 +169,9 @@ is_timeout : (ticks count flags : ℕ) (o : Op) → IsTrue (is_valid o) → IsTr
     → IsTrue (nat_lt count 1024 && (nat_lt ticks 2147483648 && is_etime_word flags))
 is_timeout ticks count flags (Timeout n success m) valid ok is =
     let parts = both_true (nat_lt m 1024) (nat_lt n 2147483648) ok in
-    both (ap (λ (r : Row). nat_lt r.off 1024) is ∙ parts.0)
-    (both (ap (λ (r : Row). nat_lt r.addr 2147483648) is ∙ parts.1) (is_etime_word-word flags success (ap (λ (r : Row). r.word) is)))
-is_timeout ticks count flags o valid ok is = let code = ap (λ (r : Row). r.opcode) is in absurd (omega arith)
+    both (ap (λ (r : Fields). nat_lt r.off 1024) is ∙ parts.0)
+    (both (ap (λ (r : Fields). nat_lt r.addr 2147483648) is ∙ parts.1) (is_etime_word-word flags success (ap (λ (r : Fields). r.word) is)))
+is_timeout ticks count flags o valid ok is = let code = ap (λ (r : Fields). r.opcode) is in absurd (omega arith)
 
 pub Reads-timeout : (ticks count flags : ℕ)
     → Reads (record { opcode = 11; fd = no_fd; off = count; addr = ticks; len = 1; word = flags; splice_fd_in = pos 0 }) (timeout_count_op ticks count flags)
@@ -186,8 +186,8 @@ Reads-timeout ticks count flags =
 
 is_link_timeout : (ticks : ℕ) (o : Op) → IsTrue (is_valid o) → IsTrue (fits_op o)
     → record { opcode = 15; fd = no_fd; off = 0; addr = ticks; len = 1; word = 0; splice_fd_in = pos 0 } ≡ row o → IsTrue (nat_lt ticks 2147483648)
-is_link_timeout ticks (LinkTimeout n) valid ok is = ap (λ (r : Row). nat_lt r.addr 2147483648) is ∙ ok
-is_link_timeout ticks o valid ok is = let code = ap (λ (r : Row). r.opcode) is in absurd (omega arith)
+is_link_timeout ticks (LinkTimeout n) valid ok is = ap (λ (r : Fields). nat_lt r.addr 2147483648) is ∙ ok
+is_link_timeout ticks o valid ok is = let code = ap (λ (r : Fields). r.opcode) is in absurd (omega arith)
 
 pub Reads-link_timeout : (ticks : ℕ) → Reads (record { opcode = 15; fd = no_fd; off = 0; addr = ticks; len = 1; word = 0; splice_fd_in = pos 0 }) (link_timeout_op ticks)
 Reads-link_timeout ticks = Reads-chosen _ (nat_lt ticks 2147483648) (LinkTimeout ticks) (λ t. (t, refl)) refl (is_link_timeout ticks)

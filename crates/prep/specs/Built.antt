@@ -6,14 +6,14 @@ use Rattle.entry.specs.declared.op.Offset.{Offset}
 use Rattle.entry.specs.declared.op.Offset.TheVariants.{Zero, Current}
 use Rattle.entry.specs.Entry.{Entry}
 use Rattle.entry.specs.{allowed_flags, fits, is_valid, row, Says, layout}
-use Rattle.entry.specs.declared.row.Row.{Row}
+use Rattle.entry.specs.declared.row.Fields.{Fields}
 
 -- an entry without flags and user_data
 abbrev pub plain : Op → Entry
 plain op = record { user_data = 0; flags = 0; op = op }
 
 -- what the entry of a row is, without flags and user_data: what the row's bytes say
-pub record IsOfRow (r : Row) (e : Entry) : Type 0 where
+pub record IsOfRow (r : Fields) (e : Entry) : Type 0 where
   pub says : Says (layout r 0 0) e
   pub within : IsTrue (fits e)
   pub user_data : e.user_data ≡ 0

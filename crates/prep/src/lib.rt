@@ -8,7 +8,7 @@ ghost use Rattle.prep.specs.Built.{IsOfRow, flagged, link_timeout_op, plain, pol
 
 use bitflags::Flags;
 use entry::row::CANCEL_ALL;
-use entry::{Op, Row, Sqe, by_opcode};
+use entry::{Fields, Op, Sqe, by_opcode};
 
 /// A row with the given values in its free places. Where five are given, as to io_uring_prep_rw, splice_fd_in is 0.
 macro_rules! filled {
@@ -16,7 +16,7 @@ macro_rules! filled {
         filled! { ($fd, $off, $addr, $len, $word, 0) $($row)* }
     };
     (($fd:expr, $off:expr, $addr:expr, $len:expr, $word:expr, $splice_fd_in:expr) $text:literal $name:ident { $($field:ident),* } = $code:literal: [$($fd_is:tt)*] [$($off_is:tt)*] [$($addr_is:tt)*] [$($len_is:tt)*] [$($word_is:tt)*] [$($splice_is:tt)*] $flags:tt $fails:tt;) => {
-        Row {
+        Fields {
             opcode: $code,
             fd: given!($fd, $($fd_is)*),
             off: given!($off, $($off_is)*),
@@ -39,7 +39,7 @@ macro_rules! given {
 /// The entry that a row stands for, without flags and user_data.
 /// It is inlined, so that the compiler computes the entry of a row whose opcode is known.
 #[inline(always)]
-fn entry_of(row: Row) -> Sqe
+fn entry_of(row: Fields) -> Sqe
     ensures { IsOfRow row result }
 {
     Sqe::of_row(row, 0, 0)

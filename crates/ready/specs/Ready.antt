@@ -22,8 +22,8 @@ pub record Moves : Type 0 where
   pub taken : List Req
 
 -- the pass is one of this queue's own
-abbrev pub IsOf : Facts → Moves → Type 0
-IsOf q p = p.queue ≡ q.queue
+abbrev pub IsQueuePass : Facts → Moves → Type 0
+IsQueuePass q p = p.queue ≡ q.queue
 
 -- requests put more, and a take more
 abbrev pub putting_all : List Req → Moves → Moves

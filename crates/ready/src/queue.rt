@@ -3,7 +3,7 @@ ghost use Rattle.std.specs.Prelude.{◌≡◌, ◌↔◌, ◌≤◌, ◌<◌, �
 ghost use Rattle.history.specs.declared.req.Req.{Req};
 ghost use Rattle.crossbeam_queue.specs.Passes.{view, IsPassOf, IsSamePass, ruled_capacity};
 ghost use Rattle.ready.specs.declared.span.Span.{Span};
-ghost use Rattle.ready.specs.{all_shares, most, IsOf, IsNew, AreAll, putting, putting_all, taking, all_put, all_taken, times, numbers_of, room_of, HasDrawn, IsRoom, listed};
+ghost use Rattle.ready.specs.{all_shares, most, IsQueuePass, IsNew, AreAll, putting, putting_all, taking, all_put, all_taken, times, numbers_of, room_of, HasDrawn, IsRoom, listed};
 ghost use Rattle.ready.specs.declared.error.GatherError.TheVariants.{Missing};
 
 use crate::account::Account;
@@ -71,7 +71,7 @@ impl ReadyQueue {
 
     /// Puts a request at the end. The number comes back where all places are taken.
     pub fn put<R: Wait>(&self, rt: &R, pass: &mut ReadyPass, req: Req) -> Result<(), Req>
-        requires own { IsOf self.now pass.old }
+        requires own { IsQueuePass self.now pass.old }
         ensures { MatchResult result (λ _. pass.new ≡ putting req pass.old) (λ back. (back ≡ req) × (pass.new ≡ pass.old)) }
     {
         match self.put_span(rt, pass, Span::of(req)) {
@@ -82,7 +82,7 @@ impl ReadyQueue {
 
     /// Puts the requests of a span at the end, into one place. They come back where all places are taken.
     pub fn put_span<R: Wait>(&self, rt: &R, pass: &mut ReadyPass, span: Span) -> Result<(), Span>
-        requires own { IsOf self.now pass.old }
+        requires own { IsQueuePass self.now pass.old }
         ensures { MatchResult result (λ _. pass.new ≡ putting_all span pass.old) (λ back. (back ≡ span) × (pass.new ≡ pass.old)) }
     {
         self.line.push_as::<Put, R>(rt, &mut pass.seat, span)
@@ -90,7 +90,7 @@ impl ReadyQueue {
 
     /// Takes a request from the front: the next one of a span that the pass took out before, or else one from the queue.
     pub fn next<R: Wait>(&self, rt: &R, pass: &mut ReadyPass) -> Option<Req>
-        requires own { IsOf self.now pass.old }
+        requires own { IsQueuePass self.now pass.old }
         ensures { MatchOption result (pass.new ≡ pass.old) (λ req. pass.new ≡ taking req pass.old) }
     {
         let Some(span) = draw(rt, &self.line, &mut pass.seat, &mut pass.rest) else {
@@ -109,7 +109,7 @@ impl ReadyQueue {
         alloc: Global,
         passes: Vec<ReadyPass>,
     ) -> Result<Vec<Req>, Ungathered>
-        requires own { All (λ p. IsOf self p) passes.items }
+        requires own { All (λ p. IsQueuePass self p) passes.items }
         ensures law { IfOk result (λ left. (r : Req) → times r (all_put passes.items) ≡ times r (all_taken passes.items) + times r left.items) }
         ensures places { IfOk result (λ left. length left.items ≤ room_of self.places (length passes.items)) }
         ensures complete { IfOk result (λ _. AreAll passes.items) }
@@ -140,7 +140,7 @@ impl ReadyQueue {
 
     /// As `gather`, by all passes and in room that was made before, so that nothing is left that could fail.
     pub fn gather_in<R: Wait>(self, rt: &R, passes: Vec<ReadyPass>, room: GatherRoom) -> Vec<Req>
-        requires own { All (λ p. IsOf self p) passes.items }
+        requires own { All (λ p. IsQueuePass self p) passes.items }
         requires complete { AreAll passes.items }
         requires room { IsRoom self.places (length passes.items) room }
         ensures law { (r : Req) → times r (all_put passes.items) ≡ times r (all_taken passes.items) + times r result.items }

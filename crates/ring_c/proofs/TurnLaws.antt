@@ -1,14 +1,14 @@
 -- Parts of a turn, one after another.
 use Rattle.history.specs.declared.event.Event.{Event}
 use Rattle.history.specs.History.{same}
-use Rattle.history.proofs.Requests.{bool_cases, same_itself, same_true}
+use Rattle.history.proofs.Requests.{bool_cases, same_true}
 use Rattle.steps.specs.Journal.{freed}
 use Rattle.board.specs.Polls.{polled_by}
 use Rattle.board.specs.declared.poller.Polled.{Polled}
 use Rattle.board.specs.declared.poller.Released.{Released}
 use Rattle.board.specs.declared.poller.Released.TheVariants.{Freed}
 use Rattle.board.proofs.EventsTogether.{among_both, answered_then, goes_on, goes_on_then, new_both}
-use Rattle.ring_c.proofs.Common.{AreNew, Bool, Facts, Goes, GoesOn, IsOf, IsTurn, List, Pass, Req, Told, Turned, [], answered_by, answered_one, ap, append-nil, append_assoc, cond, false, inl, is_among, own_of, refl, subst, sym, true, true≢false, ⊎_elim, ◌++◌, ◌∙◌, ◌∷◌, ◌≡◌, ◌≢◌, ◌⊎◌}
+use Rattle.ring_c.proofs.Common.{AreNew, Bool, Facts, Goes, IsOf, IsTurn, List, Pass, Req, Told, Turned, [], answered_by, ap, append-nil, append_assoc, cond, false, inl, is_among, refl, subst, sym, true, true≢false, ⊎_elim, ◌++◌, ◌∙◌, ◌∷◌, ◌≡◌, ◌≢◌, ◌⊎◌}
 
 pub turned_then : (b : Facts) (p m q : Pass) (o u w : Told) → Turned b p o m u → Turned b m u q w → Turned b p o q w
 turned_then b p m q o u w x y = record {

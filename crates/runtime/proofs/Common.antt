@@ -9,9 +9,9 @@ pub use Rattle.history.specs.{IsReplied, Phase, armed, becomes, clock_of, concer
 pub use Rattle.history.specs.declared.event.Event.{Event}
 pub use Rattle.history.specs.declared.event.Event.TheVariants.{Arm, Count, Cut, Expire, Fire, Reap, Settle, Sever, Take, Tick}
 pub use Rattle.history.specs.declared.req.Req.{Req}
-pub use Rattle.outbox.specs.Outbox.{Waiting, with_answered}
+pub use Rattle.outbox.specs.Outbox.{Places, with_request}
 pub use Rattle.ready.specs.Ready.{AreAll, Moves, all_put, all_taken, times}
-pub use Rattle.runtime.specs.{HasNext, Owed, AreClients, AreNewClients, ClientFacts, HasAwaited, HasTaken, IsNewClient, WasRefused, submitter_of, without_tail, AreWorking, Crew, HasShares, all_passes, own_in, own_share, ready_of, shares_in, shares_of, worker_of, AreHeldBack, ArePending, Cares, IsCared, IsDone, IsHeldBack, IsLinkedDue, IsNoted, IsPendingTimer, IsPlain, IsSet, LooksAfter, NoneIsDue, Once, cares_of, taken_in, with_waiting, IsPollSide, IsPolling, IsServing, IsWorkSide, AreNumbered, Places, with_request, AreRingers, IsNewRinger, HandedOver, kept_in, IsWorkTurn, PutsBack, Shifts, Worked, answered_in, ended_in}
+pub use Rattle.runtime.specs.{HasNext, Owed, AreClients, AreNewClients, ClientFacts, HasAwaited, HasTaken, IsNewClient, WasRefused, submitter_of, without_tail, AreWorking, Crew, HasShares, all_passes, own_in, own_share, ready_of, shares_in, shares_of, worker_of, AreHeldBack, ArePending, Cares, IsCared, IsDone, IsHeldBack, IsLinkedDue, IsNoted, IsPendingTimer, IsPlain, IsSet, LooksAfter, NoneIsDue, Once, cares_of, taken_in, with_waiting, IsPollSide, IsPolling, IsServing, IsWorkSide, AreNumbered, AreRingers, IsNewRinger, HandedOver, kept_in, IsWorkTurn, PutsBack, Shifts, Worked, answered_in, ended_in}
 pub use Rattle.runtime.specs.Parts.{HasFewerTimers, HasRung, HasStopped, HaveWaited, IsDueTimer, IsStuck, RangOn, StandsPolled, WaitsOn, WasTried, WatchesOn, WentOn, stands_armed, with_watched}
 pub use Rattle.runtime.specs.PollTurns.{AllRung, Desk, Did, HasTicked, IsAt, IsPollTurn, IsPollers, IsStill, IsStopped, IsTaken, MayRelease, MayRing, Rang, ReachesTo, cares_in, cells_in_all}
 pub use Rattle.runtime.specs.declared.lists.Intake.{Intake}

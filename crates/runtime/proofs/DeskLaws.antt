@@ -1,8 +1,8 @@
 -- What the poller's desk looks after, from one step of a turn to the next, and what a turn leaves of that.
 use Rattle.history.proofs.Requests.{bool_cases, same_true}
 use Rattle.wheel.specs.Deadlines.{armed as armed_at, dropped}
-use Rattle.runtime.specs.declared.hands.Hands.{Hands}
-use Rattle.runtime.proofs.Common.{AllRung, Bool, Cares, Desk, HasRung, IsDone, IsLinkedDue, IsNoted, IsPlain, IsSet, IsStopped, IsStuck, IsUnarmed, Line, List, LooksAfter, None, NoneIsDue, Once, Option, Pass, Req, Some, Waiting, [], ap, arith, armed, cares_in, cond, events_of, false, inl, inr, is_among, length, phase, same, seen_of, subst, sym, true, true≢false, with_waiting, with_watched, ℕ, ⊎_elim, ◌++◌, ◌+◌, ◌<◌, ◌∙◌, ◌∷◌, ◌≡◌, ◌≢◌, ◌≤◌, ◌⊎◌}
+use Rattle.runtime.specs.declared.poll_state.PollState.{PollState}
+use Rattle.runtime.proofs.Common.{AllRung, Bool, Cares, Desk, HasRung, IsDone, IsLinkedDue, IsNoted, IsPlain, IsSet, IsStopped, IsStuck, IsUnarmed, Line, List, LooksAfter, None, NoneIsDue, Once, Option, Pass, Places, Req, Some, [], ap, arith, armed, cares_in, cond, events_of, false, inl, inr, is_among, length, phase, same, seen_of, subst, sym, true, true≢false, with_waiting, with_watched, ℕ, ⊎_elim, ◌++◌, ◌+◌, ◌<◌, ◌∙◌, ◌∷◌, ◌≡◌, ◌≢◌, ◌≤◌, ◌⊎◌}
 use Rattle.board.proofs.EventsTogether.{among_append}
 use Rattle.runtime.proofs.PassLaws.{or_true}
 
@@ -176,12 +176,12 @@ watches_on c r j y = record {
 -- ---- what a turn leaves to be looked after
 
 -- numbers are kept, or the outbox has no place more
-pub is_stopped : (h k : Hands) (d : Desk) (o : Waiting) (before : ℕ) → IsStuck h → (h.kept.is_full ≡ true → k.kept.numbers ≢ []) → d.kept ≡ k.kept.numbers → length o.answered + h.room ≡ before → before ≡ d.places → IsStopped d o
+pub is_stopped : (h k : PollState) (d : Desk) (o : Places) (before : ℕ) → IsStuck h → (h.kept.is_full ≡ true → k.kept.numbers ≢ []) → d.kept ≡ k.kept.numbers → length o.items + h.room ≡ before → before ≡ d.places → IsStopped d o
 is_stopped h k d o before s full kept room places = ⊎_elim
     (λ f. inl (λ (e : d.kept ≡ []). full f (sym kept ∙ e)))
     (λ z. inr (omega (arith, z, room, places))) s
 
-pub all_rung : (p : Pass) (h : Hands) (old d : Desk) (o : Waiting) (before : ℕ) → HasRung p h (cares_in d) → old.poller ≡ p → d.poller ≡ h.poller → length o.answered + h.room ≡ before → before ≡ d.places → AllRung old d o
+pub all_rung : (p : Pass) (h : PollState) (old d : Desk) (o : Places) (before : ℕ) → HasRung p h (cares_in d) → old.poller ≡ p → d.poller ≡ h.poller → length o.items + h.room ≡ before → before ≡ d.places → AllRung old d o
 all_rung p h old d o before y first last room places = ⊎_elim
     (λ none. inl (subst (λ (q : Pass). NoneIsDue (cares_in d) (seen_of q)) (sym last) none))
     (λ z. inr (⊎_elim

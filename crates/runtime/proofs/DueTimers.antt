@@ -4,7 +4,7 @@ use Rattle.history.specs.Chains.{IsPlaced}
 use Rattle.board.specs.declared.phase.Phase.{Phase as Standing}
 use Rattle.board.specs.declared.phase.Phase.TheVariants.{Unborn, Held, Ready, Running, Armed, Done, Gone}
 use Rattle.board.specs.declared.poller.Polled.{Polled}
-use Rattle.runtime.specs.declared.hands.Hands.{Hands}
+use Rattle.runtime.specs.declared.poll_state.PollState.{PollState}
 use Rattle.runtime.proofs.Common.{Event, Facts, GoesOn, IsDueTimer, IsEarly, IsPollers, IsReplied, IsUnarmed, Line, List, Pass, Req, Stands, StandsPolled, arith, armed, events_of, false, phase, refl, seen_of, stands_armed, subst, sym, ticked, true, true≢false, ℕ, ⊎_elim, ◌∙◌, ◌≡◌}
 use Rattle.runtime.proofs.ClockLaws.{clock_kept}
 use Rattle.runtime.proofs.PassLaws.{noted_on}
@@ -33,7 +33,7 @@ not_early h r due e = ⊎_elim
     due.1.1
 
 -- such a timer is over once it was polled, unless it is a LINK_TIMEOUT that might not fire
-pub due_over : (b : Facts) (p : Pass) (h : Hands) (es : List Event) → GoesOn b p es h.poller → IsPollers p → ticked es ≡ 0 → (r : Req) → IsDueTimer (seen_of p) r → (x : Polled) → (x ≡ Polled.Due → ⊥) → StandsPolled p h r x → IsUnarmed (seen_of h.poller) r
+pub due_over : (b : Facts) (p : Pass) (h : PollState) (es : List Event) → GoesOn b p es h.poller → IsPollers p → ticked es ≡ 0 → (r : Req) → IsDueTimer (seen_of p) r → (x : Polled) → (x ≡ Polled.Due → ⊥) → StandsPolled p h r x → IsUnarmed (seen_of h.poller) r
 due_over b p h es g role none r due Polled.Early n s = absurd (not_early (seen_of h.poller) r (due_on b p h.poller es g role none r due) s.0)
 due_over b p h es g role none r due Polled.Fewer n s = absurd (not_early (seen_of p) r due s.0)
 due_over b p h es g role none r due Polled.TargetOpen n s = absurd (not_early (seen_of h.poller) r (due_on b p h.poller es g role none r due) s.0)
@@ -41,7 +41,7 @@ due_over b p h es g role none r due Polled.Due n s = absurd (n refl)
 due_over b p h es g role none r due x n s = s
 
 -- and one that is no longer to be watched
-pub polled_over : (p : Pass) (h : Hands) (r : Req) (x : Polled) → (x ≡ Polled.Early → ⊥) → (x ≡ Polled.Fewer → ⊥) → (x ≡ Polled.TargetOpen → ⊥) → (x ≡ Polled.Due → ⊥) → StandsPolled p h r x → IsUnarmed (seen_of h.poller) r
+pub polled_over : (p : Pass) (h : PollState) (r : Req) (x : Polled) → (x ≡ Polled.Early → ⊥) → (x ≡ Polled.Fewer → ⊥) → (x ≡ Polled.TargetOpen → ⊥) → (x ≡ Polled.Due → ⊥) → StandsPolled p h r x → IsUnarmed (seen_of h.poller) r
 polled_over p h r Polled.Early e f t d s = absurd (e refl)
 polled_over p h r Polled.Fewer e f t d s = absurd (f refl)
 polled_over p h r Polled.TargetOpen e f t d s = absurd (t refl)

@@ -1,11 +1,11 @@
 -- Requests that could not go on, and the loops over those that wait and over those that are watched.
 use Rattle.std.proofs.Common.{not, IfOk}
 use Rattle.entry.specs.Entry.{Entry}
-use Rattle.history.specs.{is_timer, IsOf as IsOfKind}
+use Rattle.history.specs.{is_timer, IsPlacedAs}
 use Rattle.steps.proofs.JournalGrowth.{kind_lasts}
 use Rattle.board.specs.PollerRows.{MayArm}
 use Rattle.runtime.specs.declared.error.Memory.{Memory}
-use Rattle.runtime.specs.declared.hands.Hands.{Hands}
+use Rattle.runtime.specs.declared.poll_state.PollState.{PollState}
 use Rattle.runtime.proofs.Common.{AreHeldBack, ArePending, Begins, Err, Event, Facts, GoesOn, HaveWaited, IsHeldBack, IsPendingTimer, IsReplied, IsStuck, IsUnheld, List, Ok, Once, Pass, Phase, Places, Req, Result, WaitsOn, WasTried, WatchesOn, [], ap, append_assoc, arith, armed, false, freed, inl, inr, is_among, is_ok, length, length-append, phase, refl, seen_of, setup_of, subst, sym, true, true≢false, unborn, waits, with_request, ℕ, ⊎_elim, ◌++◌, ◌+◌, ◌-◌, ◌<◌, ◌∙◌, ◌∷◌, ◌≡◌, ◌≢◌, ◌⊎◌}
 use Rattle.runtime.proofs.PassLaws.{armed_on, born_on, freed_on, lasts_on, once_later, once_sooner, replied_on}
 use Rattle.runtime.proofs.DeskLaws.{among_one, among_or}
@@ -33,9 +33,9 @@ was_unborn b p q es x r un held = ⊎_elim
     un
 
 -- a timer that may be armed is one for good
-pub timer_stays : (b : Facts) (p q : Pass) (es : List Event) → GoesOn b p es q → (r : Req) → MayArm (seen_of p) r → IsOfKind (seen_of q) r is_timer false → ⊥
+pub timer_stays : (b : Facts) (p q : Pass) (es : List Event) → GoesOn b p es q → (r : Req) → MayArm (seen_of p) r → IsPlacedAs (seen_of q) r is_timer false → ⊥
 timer_stays b p q es x r m y =
-    let k = lasts_on b p q es x (λ h. IsOfKind h r is_timer true) r (kind_lasts (setup_of b.layout) r is_timer true) (born_on b p q es x r waits m.0 (λ e. cc)) m.3 in
+    let k = lasts_on b p q es x (λ h. IsPlacedAs h r is_timer true) r (kind_lasts (setup_of b.layout) r is_timer true) (born_on b p q es x r waits m.0 (λ e. cc)) m.3 in
     true≢false (sym k.2 ∙ (ap (λ (e : Entry). is_timer e.op) (one_entry (seen_of q) r k.0 y.0 k.1 y.1) ∙ y.2))
 
 -- who waits, list by list, as the poller goes on
@@ -121,7 +121,7 @@ pub none_pending : (p q : Pass) → ArePending p q []
 none_pending p q r is = absurd (true≢false (sym is))
 
 -- who may go on is not stuck
-pub free_unstuck : (h : Hands) → h.kept.is_full ≡ false → 0 < h.room → IsStuck h → ⊥
+pub free_unstuck : (h : PollState) → h.kept.is_full ≡ false → 0 < h.room → IsStuck h → ⊥
 free_unstuck h full some s = ⊎_elim (λ f. true≢false (sym f ∙ full)) (λ z. omega (arith, some, z)) s
 
 longer : (s : Places) (r : Req) → s ≡ with_request r s → ⊥
@@ -137,7 +137,7 @@ held_more p m q r done old new b c held w e i is = ⊎_elim
     (among_or done (r ∷ []) i is)
 
 -- requests that wait, one of which was tried
-pub next_held : (p m q : Pass) (h k : Hands) (x y : Result (Unit {0}) Memory) (items : List Req) (old new : Places) (r : Req) (n total : ℕ)
+pub next_held : (p m q : Pass) (h k : PollState) (x y : Result (Unit {0}) Memory) (items : List Req) (old new : Places) (r : Req) (n total : ℕ)
     → Passed items n total (λ done. IfOk x (λ _. AreHeldBack p m done ⊎ IsStuck h)) → items ≡ r ∷ old.items → n < total → Begins m.view.seen p.view.seen → Begins q.view.seen m.view.seen → (is_ok y ≡ true → is_ok x ≡ true)
     → (IsStuck h → IsStuck k) → WaitsOn r old new → IfOk y (λ _. WasTried r m q old new ⊎ IsStuck k) → Passed new.items (n + 1) total (λ done. IfOk y (λ _. AreHeldBack p q done ⊎ IsStuck k))
 next_held p m q h k x (Ok u) items old new r n total t is lt b c ok stuck w tried =

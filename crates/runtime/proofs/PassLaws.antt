@@ -1,6 +1,6 @@
 -- What stays as the poller's pass goes on, and what was true at some time in between.
 use Rattle.history.specs.Chains.{IsPlaced, is_timeout}
-use Rattle.history.specs.Legal.{Legal, Setup, IsOf as IsOfKind}
+use Rattle.history.specs.Legal.{Legal, Setup, IsPlacedAs}
 use Rattle.history.proofs.Growth.{MayChange, may_change, changed, unchanged, replied_stays}
 use Rattle.history.proofs.Requests.{bool_cases}
 use Rattle.steps.proofs.JournalGrowth.{Lasting, counted_in, kind_lasts, lasts, legal_before, placed_lasts, replied_later}
@@ -64,7 +64,7 @@ module _ (b : Facts) (p q : Pass) (es : List Event) (x : GoesOn b p es q) where
 
   pub plain_on : (r : Req) → r.k < submits (seen_of p) r.ring → IsPlain (seen_of p) r → IsPlain (seen_of q) r
   plain_on r born y = (
-    lasts_on (λ h. IsOfKind h r is_timeout true) r (kind_lasts S r is_timeout true) born y.0,
+    lasts_on (λ h. IsPlacedAs h r is_timeout true) r (kind_lasts S r is_timeout true) born y.0,
     (y.1.0, lasts_on (λ h. IsPlaced h r y.1.0) r (placed_lasts S r y.1.0) born y.1.1, y.1.2),
   )
 

@@ -1,24 +1,24 @@
 -- Parts of a turn: those that answer nothing, and what a later part leaves as it was.
 use Rattle.std.proofs.lemmas.Bool.{cases_order}
-use Rattle.runtime.specs.declared.hands.Hands.{Hands}
-use Rattle.runtime.proofs.Common.{ArePending, Begins, Cares, Facts, HasRung, HasStopped, HaveWaited, IsHeldBack, IsLinkedDue, IsPendingTimer, IsPollers, IsStuck, IsTaken, List, NoneIsDue, Once, Owed, Pass, Places, Rang, ReachesTo, Req, Some, Waiting, WasTried, WentOn, [], answered_by, ap, arith, false, inl, inr, is_among, length, length-append, refl, same, seen_of, slice_index, subst, sym, true, ℕ, ⊎_elim, ◌++◌, ◌+◌, ◌-◌, ◌<◌, ◌∙◌, ◌∷◌, ◌≡◌, ◌≢◌, ◌≤◌, ◌⊎◌}
+use Rattle.runtime.specs.declared.poll_state.PollState.{PollState}
+use Rattle.runtime.proofs.Common.{ArePending, Begins, Cares, Facts, HasRung, HasStopped, HaveWaited, IsHeldBack, IsLinkedDue, IsPendingTimer, IsPollers, IsStuck, IsTaken, List, NoneIsDue, Once, Owed, Pass, Places, Rang, ReachesTo, Req, Some, WasTried, WentOn, [], answered_by, ap, arith, false, inl, inr, is_among, length, length-append, refl, same, seen_of, slice_index, subst, sym, true, ℕ, ⊎_elim, ◌++◌, ◌+◌, ◌-◌, ◌<◌, ◌∙◌, ◌∷◌, ◌≡◌, ◌≢◌, ◌≤◌, ◌⊎◌}
 use Rattle.runtime.proofs.ClockLaws.{clock_kept}
 use Rattle.runtime.proofs.PassLaws.{begins_then, once_later, once_sooner}
 use Rattle.runtime.proofs.HeldBack.{free_unstuck, have_waited_then, tried_waits}
 
 -- ---- parts that answer nothing
 
-pub no_answers : Waiting
-no_answers = record { places = 0; answered = [] }
+pub no_answers : Places
+no_answers = record { places = 0; items = [] }
 
-pub went_room : (b : Facts) (h k : Hands) → WentOn b h k → k.room ≡ h.room
+pub went_room : (b : Facts) (h k : PollState) → WentOn b h k → k.room ≡ h.room
 went_room b h k x = let e = (x no_answers).room in omega (arith, e)
 
-pub went_free : (b : Facts) (h k : Hands) → WentOn b h k → (h.kept.is_full ≡ false) × (0 < h.room) → (k.kept.is_full ≡ false) × (0 < k.room)
+pub went_free : (b : Facts) (h k : PollState) → WentOn b h k → (h.kept.is_full ≡ false) × (0 < h.room) → (k.kept.is_full ≡ false) × (0 < k.room)
 went_free b h k x f = (ap (λ (z : Owed). z.is_full) (x no_answers).same.1 ∙ f.0, let e = went_room b h k x in let some = f.1 in omega (arith, e, some))
 
 -- who may go on has not stopped
-pub free_goes_on : (h : Hands) (s : Places) → h.kept.is_full ≡ false → 0 < h.room → length s.items < s.places → HasStopped h s → ⊥
+pub free_goes_on : (h : PollState) (s : Places) → h.kept.is_full ≡ false → 0 < h.room → length s.items < s.places → HasStopped h s → ⊥
 free_goes_on h s full some open' z = ⊎_elim (λ k. free_unstuck h full some k) (λ le. omega (arith, le, open')) z
 
 -- who had waited, after one more was taken up and released
@@ -27,7 +27,7 @@ waited_more p m n q xs ys old new r x y z w e t = have_waited_then p m q xs ys n
     (λ i is. ⊎_elim (λ v. inl (subst (λ (l : List Req). is_among l i ≡ true) e v)) (λ o. inr (once_sooner m n q (λ h. IsHeldBack h i) y o)) (tried_waits r n q old new t i is))
 
 -- one ring more was taken up
-pub taken_next : (tails : List ℕ) (old new : ℕ → ℕ) (ring tail : ℕ) (h k : Hands) (s t : Places) → tail ≡ slice_index tails ring → ((i : ℕ) → i ≢ ring → new i ≡ old i) → (HasStopped h s → HasStopped k t)
+pub taken_next : (tails : List ℕ) (old new : ℕ → ℕ) (ring tail : ℕ) (h k : PollState) (s t : Places) → tail ≡ slice_index tails ring → ((i : ℕ) → i ≢ ring → new i ≡ old i) → (HasStopped h s → HasStopped k t)
     → ((i : ℕ) → i < ring → IsTaken tails old i) ⊎ HasStopped h s → ReachesTo tail (new ring) ⊎ HasStopped k t → ((i : ℕ) → i < ring + 1 → IsTaken tails new i) ⊎ HasStopped k t
 taken_next tails old new ring tail h k s t is others stops before now = ⊎_elim
     (λ (b : (i : ℕ) → i < ring → IsTaken tails old i). ⊎_elim
@@ -42,21 +42,21 @@ taken_next tails old new ring tail h k s t is others stops before now = ⊎_elim
 
 -- ---- what a later part of a turn leaves as it was
 
-pub room_falls : (b : Facts) (h k : Hands) (o w : Waiting) → Rang b h o k w → k.room ≤ h.room
+pub room_falls : (b : Facts) (h k : PollState) (o w : Places) → Rang b h o k w → k.room ≤ h.room
 room_falls b h k o w x =
-    let e : length w.answered ≡ length (o.answered ++ answered_by x.events) = ap (λ (l : List Req). length l) x.answered in let r = x.room in
-    omega (arith, e, r, length-append o.answered (answered_by x.events))
+    let e : length w.items ≡ length (o.items ++ answered_by x.events) = ap (λ (l : List Req). length l) x.answered in let r = x.room in
+    omega (arith, e, r, length-append o.items (answered_by x.events))
 
-pub stuck_on : (b : Facts) (h k : Hands) (o w : Waiting) → Rang b h o k w → IsStuck h → IsStuck k
+pub stuck_on : (b : Facts) (h k : PollState) (o w : Places) → Rang b h o k w → IsStuck h → IsStuck k
 stuck_on b h k o w x s = ⊎_elim
     (λ f. inl (ap (λ (z : Owed). z.is_full) x.same.1 ∙ f))
     (λ z. inr (let le = room_falls b h k o w x in omega (arith, le, z))) s
 
-pub stopped_on : (b : Facts) (h k : Hands) (o w : Waiting) (s t : Places) → Rang b h o k w → t ≡ s → HasStopped h s → HasStopped k t
+pub stopped_on : (b : Facts) (h k : PollState) (o w : Places) (s t : Places) → Rang b h o k w → t ≡ s → HasStopped h s → HasStopped k t
 stopped_on b h k o w s t x e y = ⊎_elim (λ st. inl (stuck_on b h k o w x st)) (λ le. inr (subst (λ (z : Places). z.places ≤ length z.items) (sym e) le)) y
 
 -- no timer has become due
-pub rung_on : (b : Facts) (p : Pass) (h k : Hands) (o w : Waiting) (c d : Cares) → IsPollers h.poller → ((r : Req) (n : ℕ) → d.deadline r ≡ Some n → c.deadline r ≡ Some n) → Rang b h o k w → HasRung p h c → HasRung p k d
+pub rung_on : (b : Facts) (p : Pass) (h k : PollState) (o w : Places) (c d : Cares) → IsPollers h.poller → ((r : Req) (n : ℕ) → d.deadline r ≡ Some n → c.deadline r ≡ Some n) → Rang b h o k w → HasRung p h c → HasRung p k d
 rung_on b p h k o w c d role fewer x y = ⊎_elim
     (λ none. inl (λ r n is. let same_time = clock_kept b h.poller k.poller x.events x.goes role x.still in let lt = none r n (fewer r n is) in omega (arith, same_time, lt)))
     (λ z. inr (⊎_elim
@@ -65,10 +65,10 @@ rung_on b p h k o w c d role fewer x y = ⊎_elim
     z))
     y
 
-pub rung_sooner : (p m : Pass) (h : Hands) (c : Cares) → Begins m.view.seen p.view.seen → HasRung m h c → HasRung p h c
+pub rung_sooner : (p m : Pass) (h : PollState) (c : Cares) → Begins m.view.seen p.view.seen → HasRung m h c → HasRung p h c
 rung_sooner p m h c b y = ⊎_elim (λ none. inl none) (λ z. inr (⊎_elim (λ full. inl full) (λ linked. inr (linked.0, (linked.1.0, once_sooner p m h.poller (λ e. IsLinkedDue e linked.1.0) b linked.1.1))) z)) y
 
-pub rung_is : (p : Pass) (h k : Hands) (c : Cares) → k.poller ≡ h.poller → k.room ≡ h.room → HasRung p h c → HasRung p k c
+pub rung_is : (p : Pass) (h k : PollState) (c : Cares) → k.poller ≡ h.poller → k.room ≡ h.room → HasRung p h c → HasRung p k c
 rung_is p h k c same_poller same_room y = ⊎_elim
     (λ none. inl (subst (λ (q : Pass). NoneIsDue c (seen_of q)) (sym same_poller) none))
     (λ z. inr (⊎_elim

@@ -4,7 +4,7 @@ use Rattle.std.specs.List.{slice_index_or}
 use Rattle.entry.specs.Entry.{Entry}
 use Rattle.history.specs.declared.req.Req.{Req}
 use Rattle.history.specs.declared.event.Event.{Event}
-use Rattle.history.specs.{phase, waits, armed, clock_of, IsReplied, IsLinkTimeout, IsPlaced, IsTarget, Open, Severed, is_timeout, count_of, IsOf as IsOfKind}
+use Rattle.history.specs.{phase, waits, armed, clock_of, IsReplied, IsLinkTimeout, IsPlaced, IsTarget, Open, Severed, is_timeout, count_of, IsPlacedAs}
 use Rattle.steps.specs.declared.line.Line.{Line}
 use Rattle.steps.specs.{events_of, freed, Begins}
 use Rattle.work.specs.Passes.{Pass}
@@ -41,7 +41,7 @@ IsDone j r = (freed j r ≡ true) ⊎ IsReplied (phase (events_of j) r)
 
 -- a TIMEOUT that counts no completions, so that no reply of another ends it but that of a cancel
 abbrev pub IsPlain : List Event → Req → Type 0
-IsPlain h r = IsOfKind h r is_timeout true × ((e : Entry) × IsPlaced h r e × (count_of e.op ≡ 0))
+IsPlain h r = IsPlacedAs h r is_timeout true × ((e : Entry) × IsPlaced h r e × (count_of e.op ≡ 0))
 
 -- the timer is armed, its deadline is noted, and it is watched where it has a target or counts completions
 pub record IsSet (c : Cares) (j : List Line) (r : Req) : Type 0 where

@@ -1,4 +1,3 @@
-pub mod Shelves
 pub mod Desks
 pub mod Turns
 pub mod PollTurns
@@ -20,7 +19,6 @@ pub use Rattle.runtime.specs.Parts.{HasFewerTimers, HasRung, IsStuck, RangOn, St
 pub use Rattle.runtime.specs.PollTurns.{AllCounted, AllDone, AllRung, AllTaken, AllTried, Did, HasRoom, HasTicked, IsAt, IsAtRest, IsNewDesk, IsPollTurn, IsPollers, IsStill, IsTaken, MayRelease, MayRing, Rang, ReachesTo, cares_in, cells_in_all}
 pub use Rattle.runtime.specs.PostLocks.{AreNumbered}
 pub use Rattle.runtime.specs.Rests.{CameToRest, HasRested, IsHalted}
-pub use Rattle.runtime.specs.Shelves.{Places, with_request}
 pub use Rattle.runtime.specs.StartParts.{AreRingers, HavePairs, IsNewRinger, IsParts}
 pub use Rattle.runtime.specs.Turns.{HandedOver, kept_in}
 pub use Rattle.runtime.specs.WorkTurns.{FoundNone, IsWorkTurn, PutsBack, Shifts, Worked, answered_in, ended_in}

@@ -2,7 +2,7 @@
 use Rattle.std.specs.Prelude.{◌≡◌, ◌<◌, ◌≤◌, List, [], Option, Some, None}
 use Rattle.work.specs.{IsOf, Pass, seen_of}
 use Rattle.bell.specs.BellPasses.{IsSleeperOf}
-use Rattle.ready.specs.Ready.{IsOf as IsOfQueue}
+use Rattle.ready.specs.Ready.{IsQueuePass}
 use Rattle.board.specs.ShapeLimits.{widest}
 use Rattle.runtime.specs.declared.shared.Shared.{Shared}
 use Rattle.history.specs.declared.event.Event.{Event}
@@ -18,12 +18,12 @@ pub record IsPolling (s : Shared) (d : Desk) : Type 0 where
   pub sleeper : IsSleeperOf s.bell d.sleeper
   pub rings : d.rings ≡ s.bell.rings
   pub some : 0 < d.rings
-  pub ready : IsOfQueue s.queue d.ready
+  pub ready : IsQueuePass s.queue d.ready
 
 -- the worker and its desk are of this board and queue
 pub record IsServing (s : Shared) (d : WorkDesk) (worker : Pass) : Type 0 where
   pub worker_is : IsOf s.board worker
-  pub ready : IsOfQueue s.queue d.ready
+  pub ready : IsQueuePass s.queue d.ready
 
 -- the worker and its desk are of this board and queue, and its outbox has room for a turn
 pub record IsWorkSide (s : Shared) (side : WorkSide) : Type 0 where
@@ -39,5 +39,5 @@ MayOwn s (Some own) = IsWorkSide s own
 pub record IsPollSide {C : Type 0} (follows : C → List Event → Type 0) (s : Shared) (side : PollSide C) : Type 0 where
   pub desk : IsPolling s side.desk
   pub clock : follows side.clock (seen_of side.desk.poller)
-  pub outbox : (side.outbox.answered ≡ []) × (side.desk.places ≤ side.outbox.places)
+  pub outbox : (side.outbox.items ≡ []) × (side.desk.places ≤ side.outbox.places)
   pub own : MayOwn s side.own

@@ -3,7 +3,7 @@ use Rattle.std.specs.Prelude.{◌≡◌, ℕ, suc, ◌+◌, ◌<◌, List, [], �
 use Rattle.bell.specs.BellPasses.{Facts as Bell, Ringing, IsRingerOf, IsSleeperOf}
 use Rattle.board.specs.declared.shape.Shape.{Shape}
 use Rattle.board.specs.New.{IsNew}
-use Rattle.ready.specs.{IsOf as IsOfQueue, all_shares}
+use Rattle.ready.specs.{IsQueuePass, all_shares}
 use Rattle.runtime.specs.declared.parts.Parts.{Parts}
 use Rattle.runtime.specs.declared.crew.WorkerParts.{WorkerParts}
 
@@ -29,8 +29,8 @@ pub record IsParts (s : Shape) (p : Parts) : Type 0 where
   pub rings : p.shared.bell.rings ≡ length s.rings.items
   pub sleeper : IsSleeperOf p.shared.bell p.poller.sleeper
   pub ringers : AreRingers p.shared.bell 0 p.clients.ringers.items × (length p.clients.ringers.items ≡ length s.rings.items)
-  pub ready : IsOfQueue p.shared.queue p.poller.ready
-  pub passes : All (λ q. IsOfQueue p.shared.queue q) p.workers.passes.items
+  pub ready : IsQueuePass p.shared.queue p.poller.ready
+  pub passes : All (λ q. IsQueuePass p.shared.queue q) p.workers.passes.items
   pub count : HavePairs p.workers
   pub shares : p.poller.ready.share + sum_by (λ q. q.share) p.workers.passes.items ≡ all_shares
   pub posts : p.shared.posts ≡ length s.rings.items

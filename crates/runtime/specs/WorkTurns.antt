@@ -15,7 +15,7 @@ use Rattle.board.specs.Calls.{Finds, Goes}
 use Rattle.board.specs.declared.phase.Phase.{Phase as Standing}
 use Rattle.board.specs.declared.phase.Phase.TheVariants.{Unborn, Done, Gone}
 use Rattle.ready.specs.Ready.{Moves}
-use Rattle.outbox.specs.Outbox.{Waiting}
+use Rattle.outbox.specs.Outbox.{Places}
 
 -- a worker's desk: its pass of the ready queue, the numbers that are still to go there, and for how many it has room
 pub record Desk : Type 0 where
@@ -80,13 +80,13 @@ abbrev pub Serves : Facts → Pass → Pass → List Req → List Req → List R
 Serves b p q rs gone woken = ((q ≡ p) × (rs ≡ []) × (gone ≡ []) × (woken ≡ [])) ⊎ ((r : Req) × Tried b r p q rs gone woken)
 
 -- a turn of a worker and its desk: it ran at most one request, what its events answered is in the outbox, each once, and no number was lost: each that it had, or took out, or took along from a pipe, it put into the queue, or keeps, or is done with
-pub record IsWorkTurn (b : Facts) (old new : Desk) (p q : Pass) (before after : Waiting) : Type 0 where
+pub record IsWorkTurn (b : Facts) (old new : Desk) (p q : Pass) (before after : Places) : Type 0 where
   pub of : IsOf b q
   pub answered : List Req
   pub gone : List Req
   pub woken : List Req
   pub serves : Serves b p q answered gone woken
-  pub outbox : after ≡ record before { answered = before.answered ++ answered }
+  pub outbox : after ≡ record before { items = before.items ++ answered }
   pub numbers : Shifts old woken gone new
 
 -- the desk put some of the numbers that it had kept into the ready queue, and keeps the others. It took none from there

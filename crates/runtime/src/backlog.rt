@@ -1,6 +1,6 @@
 //! The numbers of requests that the poller has moved to Ready, on their way into the ready queue.
 ghost use Rattle.std.specs.Prelude.{◌≡◌, ◌≢◌, [], ◌∷◌, ◌++◌, true, false};
-ghost use Rattle.ready.specs.Ready.{IsOf as IsOfQueue};
+ghost use Rattle.ready.specs.Ready.{IsQueuePass};
 ghost use Rattle.runtime.specs.{HandedOver, no_numbers};
 
 use history::Req;
@@ -84,7 +84,7 @@ impl Backlog {
     /// Adds a number. It joins the span where it is the next of the same ring and the span has room for it; else the span goes into
     /// the ready queue first.
     pub fn add<R: Wait>(&mut self, rt: &R, queue: &ReadyQueue, ready: &mut ReadyPass, req: Req)
-        requires own { IsOfQueue queue.now ready.old }
+        requires own { IsQueuePass queue.now ready.old }
         requires free { self.old.is_full ≡ false }
         ensures { HandedOver ready.old (self.old.numbers ++ req ∷ []) ready.new self.new.numbers }
     {
@@ -111,7 +111,7 @@ impl Backlog {
 
     /// Puts all numbers into the ready queue. Where that is full they stay.
     pub fn flush<R: Wait>(&mut self, rt: &R, queue: &ReadyQueue, ready: &mut ReadyPass)
-        requires own { IsOfQueue queue.now ready.old }
+        requires own { IsQueuePass queue.now ready.old }
         ensures { HandedOver ready.old self.old.numbers ready.new self.new.numbers }
     {
         let Some(span) = self.span.take() else {

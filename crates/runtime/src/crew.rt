@@ -3,7 +3,7 @@
 ghost use Rattle.std.specs.Prelude.{◌≡◌, ◌≢◌, ◌+◌, ◌≤◌, [], All, length, sum_by, vec_capacity, IfOk, IfErr};
 ghost use Rattle.std.specs.Arc.{arc_value};
 ghost use Rattle.work.specs.Board.{IsOf};
-ghost use Rattle.ready.specs.Ready.{IsOf as IsOfQueue};
+ghost use Rattle.ready.specs.Ready.{IsQueuePass};
 ghost use Rattle.board.specs.ShapeLimits.{widest};
 ghost use Rattle.runtime.specs.{AreWorking, own_in, own_share, shares_of, threads_for, IsServing, IsWorkSide, MayOwn, HavePairs};
 ghost use Rattle.runtime.specs.declared.error.StartError.TheVariants.{BadShape};
@@ -104,7 +104,7 @@ fn start_beside<
     caller: Caller,
 ) -> Result<WorkThread, StartError>
     requires worker { IsOf (arc_value stage.now.shared).board worker }
-    requires ready { IsOfQueue (arc_value stage.now.shared).queue ready }
+    requires ready { IsQueuePass (arc_value stage.now.shared).queue ready }
     ensures thread { IfOk result (λ t. (arc_value t.handle.promise.0.value ≡ arc_value stage.now.shared) × (t.handle.promise.1.value.share ≡ ready.share)) }
     ensures refused { IfErr result (λ e. e ≢ BadShape) }
 {
@@ -133,7 +133,7 @@ pub(crate) fn start_workers<
     threads: &mut Vec<WorkThread>,
 ) -> Result<(), StartError>
     requires workers { All (λ p. IsOf (arc_value stage.now.shared).board p) parts.workers.items }
-    requires passes { All (λ p. IsOfQueue (arc_value stage.now.shared).queue p) parts.passes.items }
+    requires passes { All (λ p. IsQueuePass (arc_value stage.now.shared).queue p) parts.passes.items }
     requires count { HavePairs parts }
     requires room { (threads.old.items ≡ []) × (length parts.workers.items ≤ vec_capacity threads.old) }
     ensures threads { AreWorking (arc_value stage.now.shared) threads.new.items }
@@ -173,7 +173,7 @@ fn own_worker(
     ready: ReadyPass,
 ) -> Result<WorkSide, Memory>
     requires worker { IsOf shared.now.board worker }
-    requires ready { IsOfQueue shared.now.queue ready }
+    requires ready { IsQueuePass shared.now.queue ready }
     ensures own { IfOk result (λ o. IsWorkSide shared.now o) }
     ensures share { IfOk result (λ o. o.desk.ready.share ≡ ready.share) }
 {
@@ -198,12 +198,12 @@ pub(crate) fn own_of(
     parts: &mut WorkerParts,
 ) -> Result<Option<WorkSide>, Memory>
     requires workers { All (λ p. IsOf shared.now.board p) parts.old.workers.items }
-    requires passes { All (λ p. IsOfQueue shared.now.queue p) parts.old.passes.items }
+    requires passes { All (λ p. IsQueuePass shared.now.queue p) parts.old.passes.items }
     requires count { HavePairs parts.old }
     ensures own { IfOk result (λ o. MayOwn shared.now o × (own_in o + length parts.new.workers.items ≡ length parts.old.workers.items)) }
     ensures shares { IfOk result (λ o. own_share o + sum_by (λ p. p.share) parts.new.passes.items ≡ sum_by (λ p. p.share) parts.old.passes.items) }
     ensures workers { All (λ p. IsOf shared.now.board p) parts.new.workers.items }
-    ensures passes { All (λ p. IsOfQueue shared.now.queue p) parts.new.passes.items }
+    ensures passes { All (λ p. IsQueuePass shared.now.queue p) parts.new.passes.items }
     ensures count { HavePairs parts.new }
     ensures threads { IfOk result (λ _. length parts.new.workers.items + 1 ≡ threads_for (length parts.old.workers.items)) }
 {

@@ -6,8 +6,8 @@ ghost use Rattle.steps.specs.Journal.{events_of};
 ghost use Rattle.runtime.specs.{LooksAfter, cares_of, taken_in, with_waiting, WaitsOn};
 
 use crate::error::Memory;
-use crate::shelf::Shelf;
 use history::Req;
+use outbox::RequestQueue;
 use std::alloc::Global;
 use wheel::{TimerSet, Timers};
 
@@ -23,9 +23,9 @@ pub(crate) struct Intake {
 #[derive(Drop)]
 pub(crate) struct Lists {
     pub rings: Vec<Intake>,
-    pub waiting: Shelf,
+    pub waiting: RequestQueue,
     pub timers: Timers,
-    pub watchers: Shelf,
+    pub watchers: RequestQueue,
 }
 
 impl Lists {
@@ -35,8 +35,8 @@ impl Lists {
         ensures places { IfOk result (λ l. l.waiting.places ≡ places) }
         ensures cares { (j : List Line) → ((i : ℕ) → taken_in rings.items i ≡ 0) → IfOk result (λ l. LooksAfter (cares_of l) j) }
     {
-        let waiting = Shelf::new(alloc, places)?;
-        let watchers = Shelf::new(alloc, places)?;
+        let waiting = RequestQueue::with_places(alloc, places)?;
+        let watchers = RequestQueue::with_places(alloc, places)?;
         Ok(Lists {
             rings,
             waiting,

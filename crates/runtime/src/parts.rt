@@ -3,7 +3,7 @@
 //! nobody wrote.
 ghost use Rattle.std.specs.Prelude.{◌≡◌, ◌+◌, ◌<◌, ◌≤◌, All, false, length, sum_by, Err, IfOk};
 ghost use Rattle.std.specs.Arc.{arc_value};
-ghost use Rattle.ready.specs.{IsOf as IsOfQueue, all_shares};
+ghost use Rattle.ready.specs.{IsQueuePass, all_shares};
 ghost use Rattle.bell.specs.BellPasses.{IsSleeperOf};
 ghost use Rattle.event_count.specs.Passes.{IsNotifierOf, IsWaiterOf};
 ghost use Rattle.board.specs.{AreSubmitters, is_shape};
@@ -201,8 +201,8 @@ fn queue_of(
     others: u32,
 ) -> Result<(ReadyQueue, ReadyPass, Vec<ReadyPass>), Memory>
     requires { (0 < places) × (others < 4294967295) }
-    ensures ready { IfOk result (λ t. IsOfQueue t.0 t.1) }
-    ensures passes { IfOk result (λ t. All (λ p. IsOfQueue t.0 p) t.2.items) }
+    ensures ready { IfOk result (λ t. IsQueuePass t.0 t.1) }
+    ensures passes { IfOk result (λ t. All (λ p. IsQueuePass t.0 p) t.2.items) }
     ensures count { IfOk result (λ t. length t.2.items ≡ others) }
     ensures shares { IfOk result (λ t. t.1.share + sum_by (λ p. p.share) t.2.items ≡ all_shares) }
 {

@@ -6,7 +6,7 @@ ghost use Rattle.steps.specs.Journal.{freed};
 ghost use Rattle.wheel.specs.Wheel.{deadline_at};
 ghost use Rattle.bell.specs.BellPasses.{HasLoaded, HaveRisen, IsSleeperOf};
 ghost use Rattle.work.specs.{IsOf, seen_of};
-ghost use Rattle.ready.specs.Ready.{IsOf as IsOfQueue};
+ghost use Rattle.ready.specs.Ready.{IsQueuePass};
 ghost use Rattle.board.specs.Calls.{Goes};
 ghost use Rattle.controls.specs.Clocks.{Asked};
 ghost use Rattle.runtime.specs.{AreHeldBack, ArePending, LooksAfter, cares_of, taken_in, AllCounted, AllDone, AllRung, AllTaken, AllTried, Did, HasTicked, IsAt, IsPollTurn, IsStill, IsPollers, IsNewDesk, IsTaken, cares_in, cells_in_all, MayRelease};
@@ -14,8 +14,8 @@ ghost use Rattle.runtime.specs.Parts.{HasFewerTimers, HasRung, HasStopped, IsStu
 
 use crate::backlog::Backlog;
 use crate::error::Memory;
-use crate::hands::Hands;
 use crate::lists::{Intake, Lists};
+use crate::poll_state::PollState;
 use crate::releasing::{END, release_waiting, take_new};
 use crate::ringing::{has_timers, ring_due, watch_replies};
 use crate::turn::{Route, Turn};
@@ -33,7 +33,7 @@ use std::sync::Wait;
 /// many cells its board has, and what it looks after: each request that was taken up, until the poller is done with it.
 #[derive(Drop)]
 pub struct PollDesk {
-    hands: Hands,
+    state: PollState,
     sleeper: Sleeper,
     lists: Lists,
     places: usize,
@@ -46,9 +46,9 @@ impl Model for PollDesk {
 
     ghost Value = { Desk };
 
-    ghost view = { λ d. record { poller = d.hands.poller; sleeper = d.sleeper; ready = d.hands.ready; kept = d.hands.kept.numbers; places = d.places; rings = length d.lists.rings.items; intakes = d.lists.rings.items; waiting = d.lists.waiting.items; watched = d.lists.watchers.items; deadlines = d.lists.timers } };
+    ghost view = { λ d. record { poller = d.state.poller; sleeper = d.sleeper; ready = d.state.ready; kept = d.state.kept.numbers; places = d.places; rings = length d.lists.rings.items; intakes = d.lists.rings.items; waiting = d.lists.waiting.items; watched = d.lists.watchers.items; deadlines = d.lists.timers } };
 
-    ghost invariant = { λ d. LooksAfter (cares_of d.lists) d.hands.poller.view.seen × (d.lists.waiting.places ≡ d.places) };
+    ghost invariant = { λ d. LooksAfter (cares_of d.lists) d.state.poller.view.seen × (d.lists.waiting.places ≡ d.places) };
 }
 
 /// The cells of each ring.
@@ -98,7 +98,7 @@ impl PollDesk {
         let Ok(lists) = Lists::new(alloc, intakes, places) else {
             return Err((Memory, poller, sleeper, ready));
         };
-        let hands = Hands {
+        let state = PollState {
             poller,
             ready,
             kept: Backlog::new(),
@@ -107,7 +107,7 @@ impl PollDesk {
             moved: false,
         };
         Ok(PollDesk {
-            hands,
+            state,
             sleeper,
             lists,
             places,
@@ -119,12 +119,12 @@ impl PollDesk {
         ensures { (result.0 ≡ self.poller) × (result.1 ≡ self.sleeper) × (result.2 ≡ self.ready) }
     {
         let PollDesk {
-            hands,
+            state,
             sleeper,
             lists: _,
             places: _,
         } = self;
-        let Hands { poller, ready, .. } = hands;
+        let PollState { poller, ready, .. } = state;
         (poller, sleeper, ready)
     }
 
@@ -132,7 +132,7 @@ impl PollDesk {
     pub(crate) fn ready(&self) -> &ReadyPass
         ensures { result.now ≡ self.now.ready }
     {
-        &self.hands.ready
+        &self.state.ready
     }
 
     /// How many cells its board has: so many places the outbox of a turn needs.
@@ -145,12 +145,12 @@ impl PollDesk {
 
     /// How many spans of numbers its turns have put into the ready queue, modulo 2^32.
     pub(crate) fn puts(&self) -> u32 {
-        self.hands.kept.puts()
+        self.state.kept.puts()
     }
 
     /// How many numbers it handed over to the ready queue, modulo 2^32.
     pub(crate) fn handed(&self) -> u32 {
-        self.hands.kept.added()
+        self.state.kept.added()
     }
 
     /// Whether a request waits that it has taken up.
@@ -160,7 +160,7 @@ impl PollDesk {
 
     /// Whether its last turn did something.
     pub(crate) fn has_moved(&self) -> bool {
-        self.hands.moved
+        self.state.moved
     }
 
     /// Whether the poller was told to end: by a tail of ring 0 that no ring comes to.
@@ -198,69 +198,69 @@ fn phase_of(board: &Board, poller: &mut Poller, asked: Option<Req>) -> Option<Ph
 }
 
 /// Asks the clock, and sets the board's to what it tells, unless that is before its time or after its end.
-fn ask_clock<C: Clock>(board: &Board, hands: &mut Hands, clock: &mut C)
-    requires own { IsOf board.now hands.old.poller }
-    ensures role { IsPollers hands.new.poller }
-    ensures ticked { HasTicked board.now hands.old hands.new }
-    ensures follows { C.follows clock.old (seen_of hands.old.poller) → C.follows clock.new (seen_of hands.new.poller) }
+fn ask_clock<C: Clock>(board: &Board, state: &mut PollState, clock: &mut C)
+    requires own { IsOf board.now state.old.poller }
+    ensures role { IsPollers state.new.poller }
+    ensures ticked { HasTicked board.now state.old state.new }
+    ensures follows { C.follows clock.old (seen_of state.old.poller) → C.follows clock.new (seen_of state.new.poller) }
 {
-    let now = hands.poller.clock();
-    let phase = phase_of(board, &mut hands.poller, clock.ask());
+    let now = state.poller.clock();
+    let phase = phase_of(board, &mut state.poller, clock.ask());
     let Some(to) = clock.advance(now, phase) else {
         return;
     };
-    let Ok(()) = board.tick(&mut hands.poller, to) else {
+    let Ok(()) = board.tick(&mut state.poller, to) else {
         return;
     };
-    hands.moved = true;
+    state.moved = true;
 }
 
 /// The requests that wait and those that are new, and the timers, in a turn after the tails were read and the clock was asked.
 fn look_after<R: Wait>(
     route: Route<'_, R>,
     sleeper: &Sleeper,
-    hands: &mut Hands,
+    state: &mut PollState,
     lists: &mut Lists,
     outbox: &mut Outbox,
 ) -> Result<(), Memory>
-    requires may { MayRelease route.board.now route.queue.now hands.old (cares_of lists.old) outbox.old }
+    requires may { MayRelease route.board.now route.queue.now state.old (cares_of lists.old) outbox.old }
     requires rings { (length lists.old.rings.items ≡ length sleeper.now.tails) × (length lists.old.rings.items ≤ 16) }
-    ensures did { Did route.entry.board.now route.entry.queue.now hands.old outbox.old hands.new outbox.new }
-    ensures cared { LooksAfter (cares_of lists.new) hands.new.poller.view.seen }
+    ensures did { Did route.entry.board.now route.entry.queue.now state.old outbox.old state.new outbox.new }
+    ensures cared { LooksAfter (cares_of lists.new) state.new.poller.view.seen }
     ensures rings { length lists.new.rings.items ≡ length lists.old.rings.items }
     ensures places { lists.new.waiting.places ≡ lists.old.waiting.places }
-    ensures taken { IfOk result (λ _. ((i : ℕ) → i < length lists.old.rings.items → IsTaken sleeper.now.tails (taken_in lists.new.rings.items) i) ⊎ HasStopped hands.new lists.new.waiting) }
-    ensures tried { IfOk result (λ _. AreHeldBack hands.old.poller hands.new.poller lists.new.waiting.items ⊎ IsStuck hands.new) }
-    ensures rung { IfOk result (λ _. HasRung hands.old.poller hands.new (cares_of lists.new)) }
-    ensures counted { IfOk result (λ _. ArePending hands.old.poller hands.new.poller lists.new.watchers.items ⊎ (hands.new.room ≡ 0)) }
+    ensures taken { IfOk result (λ _. ((i : ℕ) → i < length lists.old.rings.items → IsTaken sleeper.now.tails (taken_in lists.new.rings.items) i) ⊎ HasStopped state.new lists.new.waiting) }
+    ensures tried { IfOk result (λ _. AreHeldBack state.old.poller state.new.poller lists.new.waiting.items ⊎ IsStuck state.new) }
+    ensures rung { IfOk result (λ _. HasRung state.old.poller state.new (cares_of lists.new)) }
+    ensures counted { IfOk result (λ _. ArePending state.old.poller state.new.poller lists.new.watchers.items ⊎ (state.new.room ≡ 0)) }
 {
-    hands.retry(route.rt, route.queue);
-    release_waiting(route, hands, lists, outbox)?;
-    take_new(route, sleeper, hands, lists, outbox)?;
-    ring_due(route.board, hands, lists, outbox);
-    watch_replies(route.board, hands, lists, outbox);
+    state.retry(route.rt, route.queue);
+    release_waiting(route, state, lists, outbox)?;
+    take_new(route, sleeper, state, lists, outbox)?;
+    ring_due(route.board, state, lists, outbox);
+    watch_replies(route.board, state, lists, outbox);
     Ok(())
 }
 
 /// What the turn came to: whether it did something, or keeps numbers; else whether a request that it has taken up waits or is armed.
-fn came_to(board: &Board, hands: &mut Hands, lists: &mut Lists) -> Turn
-    requires own { IsAt board.now hands.old }
-    requires cared { LooksAfter (cares_of lists.old) hands.old.poller.view.seen }
-    ensures went_on { WentOn board.now hands.old hands.new }
-    ensures cared { LooksAfter (cares_of lists.new) hands.new.poller.view.seen }
+fn came_to(board: &Board, state: &mut PollState, lists: &mut Lists) -> Turn
+    requires own { IsAt board.now state.old }
+    requires cared { LooksAfter (cares_of lists.old) state.old.poller.view.seen }
+    ensures went_on { WentOn board.now state.old state.new }
+    ensures cared { LooksAfter (cares_of lists.new) state.new.poller.view.seen }
     ensures same { (lists.new.rings ≡ lists.old.rings) × (lists.new.waiting ≡ lists.old.waiting) × (lists.new.watchers ≡ lists.old.watchers) }
     ensures fewer { HasFewerTimers lists.old lists.new }
-    ensures still { result ≢ Turn.Moved → (hands.new.moved ≡ false) × (hands.new.kept.numbers ≡ []) }
+    ensures still { result ≢ Turn.Moved → (state.new.moved ≡ false) × (state.new.kept.numbers ≡ []) }
     ensures none { result ≡ Turn.Idle → (lists.new.waiting.items ≡ []) × ((r : Request) (d : ℕ) → deadline_at lists.new.timers r ≢ Some d) }
 {
-    if hands.moved || !hands.kept.is_empty() {
+    if state.moved || !state.kept.is_empty() {
         return Turn::Moved;
     }
     if lists.waiting.len() > 0 || lists.watchers.len() > 0 {
         return Turn::Still;
     }
-    let has_timers = has_timers(board, hands, lists);
-    if hands.moved {
+    let has_timers = has_timers(board, state, lists);
+    if state.moved {
         return Turn::Moved;
     }
     if has_timers { Turn::Still } else { Turn::Idle }
@@ -279,8 +279,8 @@ pub fn poll_turn<R: Wait, C: Clock>(
 ) -> Result<Turn, Memory>
     requires poller { IsOf route.board.now desk.old.poller }
     requires sleeper { IsSleeperOf bell.now desk.old.sleeper × (desk.old.rings ≡ bell.now.rings) }
-    requires ready { IsOfQueue route.queue.now desk.old.ready }
-    requires outbox { (outbox.old.answered ≡ []) × (desk.old.places ≤ outbox.old.places) }
+    requires ready { IsQueuePass route.queue.now desk.old.ready }
+    requires outbox { (outbox.old.items ≡ []) × (desk.old.places ≤ outbox.old.places) }
     ensures turned { IsPollTurn route.entry.board.now route.entry.queue.now desk.old desk.new outbox.new }
     ensures looks_after { LooksAfter (cares_in desk.new) desk.new.poller.view.seen }
     ensures taken_up { IfOk result (λ _. AllTaken desk.new outbox.new) }
@@ -296,12 +296,12 @@ pub fn poll_turn<R: Wait, C: Clock>(
     ensures follows { IsPollers desk.old.poller → C.follows clock.old (seen_of desk.old.poller) → C.follows clock.new (seen_of desk.new.poller) }
 {
     bell.collect(&mut desk.sleeper);
-    desk.hands.room = desk.places;
-    desk.hands.moved = false;
-    ask_clock(route.board, &mut desk.hands, clock);
+    desk.state.room = desk.places;
+    desk.state.moved = false;
+    ask_clock(route.board, &mut desk.state, clock);
     let sleeper = &desk.sleeper;
-    look_after(route, sleeper, &mut desk.hands, &mut desk.lists, outbox)?;
-    desk.hands.retry_rest(route.rt, route.queue);
-    let turn = came_to(route.board, &mut desk.hands, &mut desk.lists);
+    look_after(route, sleeper, &mut desk.state, &mut desk.lists, outbox)?;
+    desk.state.retry_rest(route.rt, route.queue);
+    let turn = came_to(route.board, &mut desk.state, &mut desk.lists);
     Ok(turn)
 }

@@ -36,7 +36,7 @@ fn post_ring<R: Wait>(rt: &R, posts: &PostLocks, outbox: &mut Outbox, ring: u16)
 /// A post for which no memory is found is tried again, until it is: the ring has room again once its client takes, and a request
 /// that was answered and never posted would be found by no one.
 pub(crate) fn post_all<R: Wait, G: Turnstile>(context: Context<'_, R, G>, outbox: &mut Outbox)
-    ensures empty { outbox.new.answered ≡ [] }
+    ensures empty { outbox.new.items ≡ [] }
     ensures places { outbox.new.places ≡ outbox.old.places }
 {
     pass_all(context.turnstile, outbox);

@@ -2,20 +2,19 @@
 ghost use Rattle.std.specs.Prelude.{◌≡◌, ◌<◌, ◌≤◌, ◌+◌, ◌*◌, [], ◌∷◌, ◌++◌, List, None, true, cond, length, IfOk, IfErr, MatchOption};
 ghost use Rattle.board.specs.ShapeLimits.{widest};
 ghost use Rattle.history.specs.declared.req.Req.{Req};
-ghost use Rattle.ready.specs.Ready.{IsOf as IsOfQueue};
+ghost use Rattle.ready.specs.Ready.{IsQueuePass};
 ghost use Rattle.steps.specs.Cells.{total};
 ghost use Rattle.work.specs.Board.{IsOf};
 ghost use Rattle.runtime.specs.WorkTurns.{Desk, FoundNone, IsWorkTurn, PutsBack, Shifts, Tried, ended_in, most_kept, past_in};
 
 use crate::error::Memory;
 use crate::shared::{Counters, Shared};
-use crate::shelf::Shelf;
 use crate::sleeping::Caller;
 use crate::turn::{Route, Turn};
 use board::{Board, Parked, Phase, Ran, Worker};
 use controls::{Point, Turnstile};
 use history::Req;
-use outbox::Outbox;
+use outbox::{Outbox, RequestQueue};
 use ready::{ReadyPass, ReadyQueue};
 use std::alloc::Global;
 use std::marker::Model;
@@ -27,7 +26,7 @@ use std::sync::{Arc, Wait};
 #[derive(Drop)]
 pub struct WorkDesk {
     ready: ReadyPass,
-    kept: Shelf,
+    kept: RequestQueue,
     others: Option<Others>,
     woken: u64,
     done: u64,
@@ -79,7 +78,7 @@ impl WorkDesk {
         ensures new { IfOk result (λ d. (d.ready ≡ ready) × (d.kept ≡ []) × (d.places ≡ most_kept board.now.layout.cells)) }
         ensures refused { IfErr result (λ e. e.1 ≡ ready) }
     {
-        let Ok(kept) = Shelf::new(alloc, most_kept(board)) else {
+        let Ok(kept) = RequestQueue::with_places(alloc, most_kept(board)) else {
             return Err((Memory, ready));
         };
         Ok(WorkDesk {
@@ -126,7 +125,7 @@ impl WorkDesk {
     /// Puts the numbers that it keeps into the ready queue, as long as that has places. For each it wakes another worker: this one may
     /// be held before it comes to it.
     fn put_kept<R: Wait>(&mut self, rt: &R, queue: &ReadyQueue)
-        requires { IsOfQueue queue.now self.old.ready }
+        requires { IsQueuePass queue.now self.old.ready }
         ensures back { PutsBack self.old self.new }
         ensures few { (length self.new.kept ≤ length self.old.kept) × (self.new.places ≡ self.old.places) }
     {
@@ -149,7 +148,7 @@ impl WorkDesk {
 
     /// The next number to try: one that found no place in the ready queue, else one from there.
     fn next<R: Wait>(&mut self, rt: &R, queue: &ReadyQueue) -> Option<Req>
-        requires { IsOfQueue queue.now self.old.ready }
+        requires { IsQueuePass queue.now self.old.ready }
         ensures shifts { MatchOption result (self.new ≡ self.old) (λ req. Shifts self.old [] (req ∷ []) self.new) }
         ensures none { result ≡ None → self.new.kept ≡ [] }
         ensures few { (length self.new.kept ≤ length self.old.kept) × (self.new.places ≡ self.old.places) }
@@ -246,10 +245,10 @@ fn serve<G: Turnstile>(
     req: Req,
 ) -> (Worker, Left)
     requires own { IsOf board.now worker }
-    requires room { length outbox.old.answered + widest board.now.layout.cells ≤ outbox.old.places }
+    requires room { length outbox.old.items + widest board.now.layout.cells ≤ outbox.old.places }
     requires places { length desk.old.kept + most_kept board.now.layout.cells ≤ desk.old.places }
     ensures own { IsOf board.now result.0 }
-    ensures tried { (answered : List Req) × (woken : List Req) × Tried board.now req worker result.0 answered (cond result.1.again [] (req ∷ [])) woken × (outbox.new ≡ record outbox.old { answered = outbox.old.answered ++ answered }) × (desk.new ≡ record desk.old { kept = desk.old.kept ++ woken }) × (length woken + 1 ≤ most_kept board.now.layout.cells) }
+    ensures tried { (answered : List Req) × (woken : List Req) × Tried board.now req worker result.0 answered (cond result.1.again [] (req ∷ [])) woken × (outbox.new ≡ record outbox.old { items = outbox.old.items ++ answered }) × (desk.new ≡ record desk.old { kept = desk.old.kept ++ woken }) × (length woken + 1 ≤ most_kept board.now.layout.cells) }
 {
     let busy = match board.begin(worker, req) {
         Ok(busy) => busy,
@@ -300,10 +299,10 @@ pub fn work_turn<R: Wait, G: Turnstile>(
     outbox: &mut Outbox,
 ) -> (Worker, Turn)
     requires worker { IsOf route.board.now worker }
-    requires ready { IsOfQueue route.queue.now desk.old.ready }
-    requires outbox { length outbox.old.answered + widest route.board.now.layout.cells ≤ outbox.old.places }
+    requires ready { IsQueuePass route.queue.now desk.old.ready }
+    requires outbox { length outbox.old.items + widest route.board.now.layout.cells ≤ outbox.old.places }
     ensures turned { IsWorkTurn route.entry.board.now desk.old desk.new worker result.0 outbox.old outbox.new }
-    ensures ready { IsOfQueue route.entry.queue.now desk.new.ready }
+    ensures ready { IsQueuePass route.entry.queue.now desk.new.ready }
     ensures idle { result.1 ≡ Turn.Idle → (desk.new.kept ≡ []) × (outbox.new ≡ outbox.old) × (result.0 ≡ worker) }
     ensures none { result.1 ≡ Turn.Idle → FoundNone desk.old desk.new }
 {

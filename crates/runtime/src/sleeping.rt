@@ -167,7 +167,7 @@ fn look_again<R: Wait, G: Turnstile>(
     entered: Entered,
 ) -> (Worker, Result<Drowsy, Listener>)
     requires desk { IsServing context.shared.now desk.old worker }
-    requires places { length outbox.old.answered + widest context.shared.now.board.layout.cells ≤ outbox.old.places }
+    requires places { length outbox.old.items + widest context.shared.now.board.layout.cells ≤ outbox.old.places }
     ensures desk { IsServing context.entry.shared.now desk.new result.0 }
     ensures turned { IsWorkTurn context.entry.shared.now.board desk.old desk.new worker result.0 outbox.old outbox.new }
     ensures idle { IfOk result.1 (λ d. (d.entered ≡ entered) × (FoundNone desk.old desk.new × (outbox.new ≡ outbox.old) × (result.0 ≡ worker))) }
@@ -191,7 +191,7 @@ pub(crate) fn doze<R: Wait, G: Turnstile>(
     listener: Listener,
 ) -> (Worker, Listener)
     requires desk { IsServing context.shared.now desk.old worker }
-    requires places { length outbox.old.answered + widest context.shared.now.board.layout.cells ≤ outbox.old.places }
+    requires places { length outbox.old.items + widest context.shared.now.board.layout.cells ≤ outbox.old.places }
     ensures desk { IsServing context.entry.shared.now desk.new result.0 }
     ensures turned { IsWorkTurn context.entry.shared.now.board desk.old desk.new worker result.0 outbox.old outbox.new }
     ensures places { outbox.new.places ≡ outbox.old.places }

@@ -5,7 +5,7 @@ ghost use Rattle.steps.specs.Cells.{total};
 ghost use Rattle.work.specs.{IsOf, seen_of};
 ghost use Rattle.board.specs.Reports.{AreOf};
 ghost use Rattle.runtime.specs.{without_tail, AreWorking, IsEndRoom, all_passes, own_in, own_share, ready_of, shares_of, worker_of, HasRested};
-ghost use Rattle.ready.specs.{AreAll, IsOf as IsOfQueue, IsRoom, all_shares};
+ghost use Rattle.ready.specs.{AreAll, IsQueuePass, IsRoom, all_shares};
 
 use crate::client::Client;
 use crate::promised::{PollThread, Polls, WorkThread, join_poller, join_workers};
@@ -233,7 +233,7 @@ impl<C: Clock> Stopped<C> {
         ensures shared { arc_value result.0 ≡ self.shared }
         ensures poller { (result.1.poller ≡ self.desk.poller) × IsOf self.shared.board result.1.poller }
         ensures workers { (result.1.workers.items ≡ map worker_of self.workers) × AreOf self.shared.board result.1.workers.items × (length result.1.workers.items ≡ self.shared.board.workers) }
-        ensures passes { (result.1.passes.items ≡ all_passes self.desk self.workers) × All (λ p. IsOfQueue self.shared.queue p) result.1.passes.items × AreAll result.1.passes.items }
+        ensures passes { (result.1.passes.items ≡ all_passes self.desk self.workers) × All (λ p. IsQueuePass self.shared.queue p) result.1.passes.items × AreAll result.1.passes.items }
         ensures room { IsRoom self.shared.queue.places (length result.1.passes.items) result.1.room }
         ensures follows { C.follows result.1.clock (seen_of result.1.poller) }
     {

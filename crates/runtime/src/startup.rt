@@ -4,7 +4,7 @@
 ghost use Rattle.std.specs.Prelude.{◌≡◌, ◌≢◌, ◌+◌, ◌<◌, ◌≤◌, [], All, false, length, sum_by, vec_capacity, Err, IfOk, IfErr};
 ghost use Rattle.std.specs.Arc.{arc_value};
 ghost use Rattle.work.specs.{IsOf, seen_of};
-ghost use Rattle.ready.specs.{IsOf as IsOfQueue, all_shares};
+ghost use Rattle.ready.specs.{IsQueuePass, all_shares};
 ghost use Rattle.bell.specs.BellPasses.{IsSleeperOf};
 ghost use Rattle.board.specs.ShapeLimits.{is_shape};
 ghost use Rattle.runtime.specs.{AreClients, IsStarted, HasShares, IsEndRoom, own_in, own_share, threads_for, IsPollSide, MayOwn, IsNewDesk, IsPollers, HavePairs, IsParts};
@@ -45,7 +45,7 @@ fn side_of<C: Clock + Drop>(
     own: Option<WorkSide>,
 ) -> Result<PollSide<C>, Memory>
     ensures desk { IfOk result (λ t. IsNewDesk (length shape.now.rings.items) parts.poller parts.sleeper parts.ready t.desk) }
-    ensures outbox { IfOk result (λ t. (t.outbox.answered ≡ []) × (t.desk.places ≤ t.outbox.places)) }
+    ensures outbox { IfOk result (λ t. (t.outbox.items ≡ []) × (t.desk.places ≤ t.outbox.places)) }
     ensures same { IfOk result (λ t. (t.clock ≡ clock) × (t.own ≡ own)) }
 {
     let PollerParts {
@@ -76,7 +76,7 @@ fn side_of<C: Clock + Drop>(
 
 /// The outbox of the poller.
 fn outbox_for(alloc: Global, desk: &PollDesk) -> Result<Outbox, Memory>
-    ensures { IfOk result (λ o. (o.answered ≡ []) × (desk.now.places ≤ o.places)) }
+    ensures { IfOk result (λ o. (o.items ≡ []) × (desk.now.places ≤ o.places)) }
 {
     let Ok(places) = u32::try_from(desk.places()) else {
         return Err(Memory);
@@ -137,7 +137,7 @@ fn start_poller<
     requires board { IsOf (arc_value stage.now.shared).board parts.poller × IsPollers parts.poller }
     requires rings { (0 < length shape.now.rings.items) × ((arc_value stage.now.shared).bell.rings ≡ length shape.now.rings.items) }
     requires sleeper { IsSleeperOf (arc_value stage.now.shared).bell parts.sleeper }
-    requires ready { IsOfQueue (arc_value stage.now.shared).queue parts.ready }
+    requires ready { IsQueuePass (arc_value stage.now.shared).queue parts.ready }
     requires clock { C.follows pace.clock (seen_of parts.poller) }
     requires worker { MayOwn (arc_value stage.now.shared) own }
     ensures thread { IfOk result (λ h. (arc_value h.promise.0.value ≡ arc_value stage.now.shared) × (h.promise.1.value.share ≡ parts.ready.share) × (h.promise.2.value ≡ own)) }
@@ -206,7 +206,7 @@ fn start_others<
     requires clients { AreClients (arc_value stage.shared).board clients.items }
     requires workers { All (λ p. IsOf (arc_value stage.shared).board p) parts.workers.items }
     requires pool { length parts.workers.items + own_in poller.promise.2.value ≡ (arc_value stage.shared).board.workers }
-    requires passes { All (λ p. IsOfQueue (arc_value stage.shared).queue p) parts.passes.items }
+    requires passes { All (λ p. IsQueuePass (arc_value stage.shared).queue p) parts.passes.items }
     requires count { HavePairs parts }
     requires shares { poller.promise.1.value.share + own_share poller.promise.2.value + sum_by (λ p. p.share) parts.passes.items ≡ all_shares }
     requires threads { (rooms.threads.items ≡ []) × (length parts.workers.items ≤ vec_capacity rooms.threads) }

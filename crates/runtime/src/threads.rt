@@ -2,7 +2,7 @@
 ghost use Rattle.std.specs.Prelude.{◌≡◌, ◌≢◌, ◌↔◌, ◌⊎◌, ◌+◌, ◌≤◌, ◌==◌, [], true, false, IfSome, IsTrue, length};
 ghost use Rattle.bell.specs.BellPasses.{HasLoaded};
 ghost use Rattle.board.specs.ShapeLimits.{widest};
-ghost use Rattle.outbox.specs.Outbox.{Waiting};
+ghost use Rattle.outbox.specs.Outbox.{Places};
 ghost use Rattle.runtime.specs.{HasShares, own_in, own_share, IsPollSide, IsServing, IsWorkSide, MayOwn, IsAtRest, IsPollTurn, IsWorkTurn};
 
 use crate::poll::{PollDesk, poll_turn, rest};
@@ -91,7 +91,7 @@ pub(crate) fn poll_round<R: Wait, G: Turnstile, C: Clock>(
     requires { IsPollSide C.follows context.shared.now side.old }
     ensures side { IsPollSide C.follows context.entry.shared.now side.new }
     ensures same { (side.new.own ≡ side.old.own) × (side.new.desk.ready.share ≡ side.old.desk.ready.share) }
-    ensures turned { (o : Waiting) × IsPollTurn context.entry.shared.now.board context.entry.shared.now.queue side.old.desk side.new.desk o }
+    ensures turned { (o : Places) × IsPollTurn context.entry.shared.now.board context.entry.shared.now.queue side.old.desk side.new.desk o }
     ensures read { HasLoaded side.old.desk.sleeper side.new.desk.sleeper }
     ensures rest { IfSome result (λ turn. turn ≢ Turn.Moved → IsAtRest context.entry.shared.now.board context.entry.shared.now.queue side.old.desk side.new.desk) }
 {
@@ -124,7 +124,7 @@ fn work_round<R: Wait, G: Turnstile>(
     requires desk { IsServing context.shared.now desk.old worker }
     requires places { widest context.shared.now.board.layout.cells ≤ outbox.old.places }
     ensures desk { IsServing context.entry.shared.now desk.new result.0 }
-    ensures turned { (o : Waiting) × ((o ≡ outbox.old) ⊎ (o ≡ record outbox.old { answered = [] })) × IsWorkTurn context.entry.shared.now.board desk.old desk.new worker result.0 o outbox.new × (result.2 ≡ (length outbox.new.answered == length o.answered)) }
+    ensures turned { (o : Places) × ((o ≡ outbox.old) ⊎ (o ≡ record outbox.old { items = [] })) × IsWorkTurn context.entry.shared.now.board desk.old desk.new worker result.0 o outbox.new × (result.2 ≡ (length outbox.new.items == length o.items)) }
     ensures idle { result.1 ≡ Turn.Idle → desk.new.kept ≡ [] }
     ensures places { outbox.new.places ≡ outbox.old.places }
     ensures share { desk.new.ready.share ≡ desk.old.ready.share }
@@ -170,7 +170,7 @@ impl WorkSide {
         ensures own { IsWorkSide context.entry.shared.now result.0 }
         ensures share { result.0.desk.ready.share ≡ self.desk.ready.share }
         ensures idle { result.1 ≡ Turn.Idle → result.0.desk.kept ≡ [] }
-        ensures posted { (may_stay ≡ false) ⊎ (result.1 ≡ Turn.Idle) → result.0.outbox.answered ≡ [] }
+        ensures posted { (may_stay ≡ false) ⊎ (result.1 ≡ Turn.Idle) → result.0.outbox.items ≡ [] }
     {
         let WorkSide {
             mut desk,
@@ -221,7 +221,7 @@ fn serve_own<R: Wait, G: Turnstile>(
     ensures own { MayOwn context.entry.shared.now own.new }
     ensures same { (own_in own.new ≡ own_in own.old) × (own_share own.new ≡ own_share own.old) }
     ensures idle { is_called ≡ true → result ≡ Turn.Idle → IfSome own.new (λ w. w.desk.kept ≡ []) }
-    ensures posted { is_called ≡ true → (may_stay ≡ false) ⊎ (result ≡ Turn.Idle) → IfSome own.new (λ w. w.outbox.answered ≡ []) }
+    ensures posted { is_called ≡ true → (may_stay ≡ false) ⊎ (result ≡ Turn.Idle) → IfSome own.new (λ w. w.outbox.items ≡ []) }
 {
     if !is_called {
         return Turn::Idle;
@@ -298,7 +298,7 @@ pub(crate) fn work<R: Wait, G: Turnstile>(
     requires { IsWorkSide context.shared.now side }
     ensures side { IsWorkSide context.entry.shared.now result }
     ensures share { result.desk.ready.share ≡ side.desk.ready.share }
-    ensures posted { result.outbox.answered ≡ [] }
+    ensures posted { result.outbox.items ≡ [] }
 {
     let WorkSide {
         mut desk,

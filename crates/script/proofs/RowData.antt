@@ -1,5 +1,4 @@
 -- The data of an answered request are as many as its reply says of a READ, and none of another entry.
-use Rattle.std.proofs.lemmas.List.{length-take}
 use Rattle.entry.specs.declared.op.Offset.{Offset}
 use Rattle.entry.specs.declared.op.Op.{Op}
 use Rattle.entry.specs.declared.op.Op.TheVariants.{Timeout, TimeoutRemove, AsyncCancel, LinkTimeout, Read, Invalid}
@@ -10,7 +9,7 @@ use Rattle.history.specs.Answers.{OpAnswers, Answers}
 use Rattle.history.proofs.Growth.{MayChange, may_change, changed, unchanged}
 use Rattle.history.proofs.PipeAnswers.{answer_bare, read_long}
 use Rattle.script.specs.Rows.{data_count}
-use Rattle.script.proofs.Common.{Bool, Event, Legal, List, None, Option, Phase, Req, Setup, Some, Submitted, [], ap, armed, becomes, bool_cases, concerns, cond, data_of, false, fired, length, min, nat_lt, negsuc, not, phase, pos, refl, replied, reply, reply_in, runs, same_true, submission, subst, sym, take, true, true≢false, waits, ℕ, ℤ, ⊎_elim, ◌&&◌, ◌==◌, ◌∙◌, ◌∷◌, ◌≡◌}
+use Rattle.script.proofs.Common.{Bool, Event, Legal, List, None, Option, Phase, Req, Setup, Some, Submitted, [], ap, armed, becomes, bool_cases, concerns, cond, data_of, false, fired, length, negsuc, not, phase, pos, refl, replied, reply, reply_in, runs, same_true, submission, subst, sym, true, true≢false, waits, ℕ, ℤ, ⊎_elim, ◌&&◌, ◌∙◌, ◌∷◌, ◌≡◌}
 
 -- ---- what answers come with
 

@@ -1,6 +1,6 @@
 -- Lists of actors, of clients and of rows, one element more or less.
 use Rattle.std.proofs.Common.{slice_get}
-use Rattle.script_run.proofs.Common.{AllCarriedOut, CarriedOut, ClientFacts, Completion, Actor, List, None, Option, Script, Some, [], ap, append_assoc, arith, client_of, inl, inr, length, length-append, map, map-append, none-some, refl, reverse, reverse-append, slice_index_or, suc, sym, taken_by, zero, ℕ, ⊎_elim, ◌++◌, ◌<◌, ◌∙◌, ◌∷◌, ◌≡◌, ◌⊎◌}
+use Rattle.script_run.proofs.Common.{AllCarriedOut, CarriedOut, ClientFacts, Actor, List, None, Option, Script, Some, [], ap, append_assoc, arith, client_of, inl, inr, length, length-append, map, map-append, none-some, refl, reverse, reverse-append, slice_index_or, suc, sym, zero, ℕ, ⊎_elim, ◌++◌, ◌<◌, ◌∙◌, ◌∷◌, ◌≡◌, ◌⊎◌}
 
 from : {X : Type 0} → Option X → X → X
 from None d = d

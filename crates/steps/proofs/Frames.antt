@@ -1,5 +1,5 @@
 -- A line about one request leaves all other cells and pipes as they were.
-use Rattle.steps.proofs.Common.{Ages, Armed, Bool, CellOk, Did, Done, Empty, Event, Fair, Free, Held, Hold, Home, IsOf, IsSubmission, IsPlaced, Keeps, Layout, Legal, Line, List, MayBegin, None, NoneOf, Open, Option, Phase, PipeIs, PipeOk, PipeSays, Ready, Reply, Req, Role, Running, Says, Setup, Some, Tag, [], answers, ap, arith, armed, bool_cases, cond, data_in, data_of, eqb-true, events_of, false, flow, holder, holders, is_holder, is_timer, lays, lying, ne_eqb, phase, refl, replied, request_at, runs, same, stands, stands_for, submission, submits, subst, sym, true, true≢false, unborn, waits, ℕ, ⊎_elim, ◌++◌, ◌<◌, ◌==◌, ◌∙◌, ◌∷◌, ◌≡◌, ◌≢◌}
+use Rattle.steps.proofs.Common.{Ages, Armed, Bool, CellOk, Did, Done, Empty, Event, Fair, Free, Held, Hold, Home, IsPlacedAs, IsSubmission, IsPlaced, Keeps, Layout, Legal, Line, List, MayBegin, None, NoneOf, Open, Option, Phase, PipeIs, PipeOk, PipeSays, Ready, Reply, Req, Role, Running, Says, Setup, Some, Tag, [], answers, ap, arith, armed, bool_cases, cond, data_in, data_of, eqb-true, events_of, false, flow, holder, holders, is_holder, is_timer, lays, lying, ne_eqb, phase, refl, replied, request_at, runs, same, stands, stands_for, submission, submits, subst, sym, true, true≢false, unborn, waits, ℕ, ⊎_elim, ◌++◌, ◌<◌, ◌==◌, ◌∙◌, ◌∷◌, ◌≡◌, ◌≢◌}
 use Rattle.steps.proofs.JournalGrowth.{about, phase_stays, data_stays, freed_stays, lent_stays, counted_in, lasts_by, lasts, submission_lasts, placed_lasts, open_lasts, kind_lasts}
 
 abbrev pub Quiet : List ℕ → Line → ℕ → Type 0
@@ -13,7 +13,7 @@ module _ (s : Setup) (l : Line) (j : List Line) (legal : Legal s (events_of (l �
   keeps_stays r home data' c k = (k.0, k.1, held_submission_stays r data' k.0 c k.2)
 
   pub may_stays : (r : Req) → r.k < submits (events_of j) r.ring → MayBegin j r → MayBegin (l ∷ j) r
-  may_stays r c m = (lasts_by s (λ h. Open h r) r (open_lasts s r) l j legal c m.0, lasts_by s (λ h. IsOf h r is_timer false) r (kind_lasts s r is_timer false) l j legal c m.1)
+  may_stays r c m = (lasts_by s (λ h. Open h r) r (open_lasts s r) l j legal c m.0, lasts_by s (λ h. IsPlacedAs h r is_timer false) r (kind_lasts s r is_timer false) l j legal c m.1)
 
   before : Legal s (events_of j)
   before = Rattle.steps.proofs.JournalGrowth.legal_tail s l j legal

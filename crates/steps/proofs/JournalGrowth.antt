@@ -1,7 +1,7 @@
 -- What stays true as the journal grows: of every line, and of the lines of others.
 use Rattle.std.proofs.Common.{◌==◌}
 use Rattle.history.proofs.LaterReplies.{later_grows}
-use Rattle.steps.proofs.Common.{Begin, Bool, Busy, Cause, Count, Cut, Did, Entry, Event, Expire, Fire, FireMiss, Freed, IsChainDone, IsOf, IsPlaced, IsReplied, Legal, Lent, Line, List, MayChange, MayCome, Miss, None, NoneOf, Open, Park, Phase, Reap, Reply, Req, Role, Settle, Setup, Sever, Severed, Shut, Some, Submitted, Submit, Take, Tick, [], adds_to, answers, ap, arith, becomes, before_in, bool_cases, changed, concerns, cond, counted, data_in, data_of, done_stays, events_of, false, freed, later_replies, lent, may_change, ne_eqb, open_stays, owns, phase, placed_stays, previous, reaped, refl, replied, replied_stays, rings, runs, same, same_false, same_true, severed_stays, shut_for, stands_for, submission, submission_none, submission_stays, submits, subst, sym, true, true≢false, unborn, unchanged, was_shut, ℕ, ℤ, ⊎_elim, ◌++◌, ◌<◌, ◌∙◌, ◌∷◌, ◌≡◌, ◌≢◌, ◌≤◌}
+use Rattle.steps.proofs.Common.{Begin, Bool, Busy, Cause, Count, Cut, Did, Entry, Event, Expire, Fire, FireMiss, Freed, IsChainDone, IsPlacedAs, IsPlaced, IsReplied, Legal, Lent, Line, List, MayChange, MayCome, Miss, None, NoneOf, Open, Park, Phase, Reap, Reply, Req, Role, Settle, Setup, Sever, Severed, Shut, Some, Submitted, Submit, Take, Tick, [], adds_to, answers, ap, arith, becomes, before_in, bool_cases, changed, concerns, cond, counted, data_in, data_of, done_stays, events_of, false, freed, later_replies, lent, may_change, ne_eqb, open_stays, owns, phase, placed_stays, previous, reaped, refl, replied, replied_stays, rings, runs, same, same_false, same_true, severed_stays, shut_for, stands_for, submission, submission_none, submission_stays, submits, subst, sym, true, true≢false, unborn, unchanged, was_shut, ℕ, ℤ, ⊎_elim, ◌++◌, ◌<◌, ◌∙◌, ◌∷◌, ◌≡◌, ◌≢◌, ◌≤◌}
 
 -- the line is about this request
 abbrev pub about : Line → Req → Bool
@@ -100,7 +100,7 @@ module _ (s : Setup) where
   pub done_lasts : (q : Req) → Lasting (λ h. IsChainDone h q) q
   done_lasts q e h l a c is = done_stays s e h l a q is
 
-  pub kind_lasts : (q : Req) (is : _) (b : Bool) → Lasting (λ h. IsOf h q is b) q
+  pub kind_lasts : (q : Req) (is : _) (b : Bool) → Lasting (λ h. IsPlacedAs h q is b) q
   kind_lasts q f b e h l a c is = (is.0, placed_stays s e h l a q c ∙ is.1, is.2)
 
   pub reaped_lasts : (q : Req) (c' : Cause) (res : ℤ) → Lasting (λ h. phase h q ≡ reaped c' res) q

@@ -1,5 +1,5 @@
 -- Loads, and the kinds of step that let a request start: release and begin.
-use Rattle.steps.proofs.Common.{Allows, Begin, Busy, Did, Extends, Fair, Freed, Full, Hands, Held, Idle, IsCell, IsOf, IsReplied, Keeps, Layout, Legal, Line, List, MayBegin, Open, Ready, Req, Role, Ruled, Running, Seated, Some, Spent, View, [], ap, arith, began, claim_at, clock_of, cond, dite, either, eqb, events_of, false, flow, freed, get_elem?, get_or, holder, holders, inl, inr, is_timer, looked, none, note_at, noticed, phase, pollers, refl, released, request_at, ring_of, runs, same_false, same_itself, setup_of, slot_at, some, stands_for, step, submits, subst, sym, tried, true, true≢false, waits, was_shut, word_of, workers, ℕ, ℕ_discrete, ◌<◌, ◌∙◌, ◌∷◌, ◌≡◌, ◌≢◌}
+use Rattle.steps.proofs.Common.{Allows, Begin, Busy, Did, Extends, Fair, Freed, Full, Hands, Held, Idle, IsCell, IsPlacedAs, IsReplied, Keeps, Layout, Legal, Line, List, MayBegin, Open, Ready, Req, Role, Ruled, Running, Seated, Some, Spent, View, [], ap, arith, began, claim_at, clock_of, cond, dite, either, eqb, events_of, false, flow, freed, get_elem?, get_or, holder, holders, inl, inr, is_timer, looked, none, note_at, noticed, phase, pollers, refl, released, request_at, ring_of, runs, same_false, same_itself, setup_of, slot_at, some, stands_for, step, submits, subst, sym, tried, true, true≢false, waits, was_shut, word_of, workers, ℕ, ℕ_discrete, ◌<◌, ◌∙◌, ◌∷◌, ◌≡◌, ◌≢◌}
 use Rattle.steps.proofs.Roles.{unowned, busy_apart, works_for}
 use Rattle.steps.proofs.JournalGrowth.{counted_in, open_lasts, kind_lasts, phase_stays}
 use Rattle.steps.proofs.Frames.{may_stays}
@@ -38,7 +38,7 @@ module _ (slots id : ℕ) (me : Seated) where
       → (s : St) (r : Ruled L s) → There slots id me s → get_or s.words (claim_at x) 0 ≡ word_of Held 0 g 0 → Does slots id me s (claim_at x) new (released (step slots (claim_at x) old new none) me x (request_at K x g))
   release_does x g old new mine has lazy inside f is_new born may s r at is =
       let q : Req = request_at K x g in let l : Line = Freed q in
-      let may' : MayBegin r.past q = (lasts_now slots id me s r at (λ h. Open h q) q (open_lasts (setup_of L) q) born may.0, lasts_now slots id me s r at (λ h. IsOf h q is_timer false) q (kind_lasts (setup_of L) q is_timer false) born may.1) in
+      let may' : MayBegin r.past q = (lasts_now slots id me s r at (λ h. Open h q) q (open_lasts (setup_of L) q) born may.0, lasts_now slots id me s r at (λ h. IsPlacedAs h q is_timer false) q (kind_lasts (setup_of L) q is_timer false) born may.1) in
       let here = says_of K r.past x _ _ Held 0 g 0 (r.cells x inside) is (omega arith) f (omega arith) in
       hand_stays slots id me s r at x g new inside l v.role (λ c. refl) (λ w. refl) (quiet_line L r.past l (here.0.2, may'.0, may'.1, here.0.3) r.live refl (λ p. (refl, refl))) (same_turns slots id me s r at l mine refl r.legal has (λ _. refl) (λ q is. absurd (lazy q is))) r.legal (owned L s r id v l at mine)
       Ready 0 0 (omega arith, f, omega arith) is_new here.1 (refl, refl, here.0.2, ap (λ b. cond b true (freed r.past q)) (same_itself q), here.0.4, here.0.5, may')

@@ -36,4 +36,4 @@ cell_pushed caps cells n slots after is u = rw is record {
 }
 
 pub new_pipe_is : (caps : List ℕ) (cells p n : ℕ) (v : WaitedPipe) → (v.pipe ≡ new_conduit n) × (v.lying.items ≡ []) × (vec_capacity v.lying ≡ cells) → n ≡ get_or caps p 0 → PipeIn caps cells p (Some (Piped v)) (untouched, [])
-new_pipe_is caps cells p n v is at = (ap (λ (z : Conduit). z.cap) is.0 ∙ at, ap (λ (z : Conduit). z.content) is.0, ap (λ (z : Conduit). z.read_shut) is.0, ap (λ (z : Conduit). z.write_shut) is.0, is.1, is.2)
+new_pipe_is caps cells p n v is at = (ap (λ (z : Conduit). z.cap) is.0 ∙ at, ap (λ (z : Conduit). z.content) is.0, ap (λ (z : Conduit). z.read_closed) is.0, ap (λ (z : Conduit). z.write_closed) is.0, is.1, is.2)

@@ -1,7 +1,7 @@
 -- The poller's steps on the clock and on timers.
 use Rattle.history.proofs.LaterReplies.{count_timeout}
 use Rattle.steps.specs.Plays.{counted}
-use Rattle.steps.proofs.Common.{Allows, Arm, Armed, Bool, Busy, Count, Did, Done, Entry, Expire, Extends, Fire, FireMiss, Held, IsCell, IsIdleWord, IsLinkTimeout, IsPlaced, IsReplied, IsTarget, Layout, Legal, Line, LinkTimeout, Op, Open, Req, Ruled, Running, Seated, Settle, Some, Spent, Tick, Timeout, View, ap, arith, armed, armed_for, by_count, by_expire, by_fire, by_settle, cause_bits, claim_at, clock_of, clock_set, cond, count_of, either, eqb, events_of, expired, fails, fails_op, false, fired, fired_at, fired_late, get_or, get_or-set_other, get_or-set_same, inl, inr, is_link_timeout, is_timeout, later_replies, negsuc, next_of, none, phase, pollers, pos, refl, replied, reply_bits, request_at, ring_of, same_itself, set-get_or, settled, setup_of, stands_for, step, submits, subst, sym, ticks, ticks_of, tried, tried_idle, true, true≢false, word_of, ℕ, ℤ, ⊎_elim, ◌+◌, ◌<◌, ◌∙◌, ◌∷◌, ◌≡◌, ◌≢◌, ◌≤◌, ◌⊎◌}
+use Rattle.steps.proofs.Common.{Allows, Arm, Armed, Bool, Busy, Count, Did, Done, Entry, Expire, Extends, Fire, FireMiss, Held, IsCell, IsIdleWord, IsLinkTimeout, IsPlaced, IsReplied, IsTarget, Layout, Legal, Line, LinkTimeout, Op, Open, Req, Ruled, Running, Seated, Settle, Some, Spent, Tick, Timeout, View, ap, arith, armed, armed_for, by_count, by_expire, by_fire, by_settle, cause_bits, claim_at, clock_of, clock_set, cond, count_of, either, eqb, events_of, expired, fails, fails_op, false, fired, fired_at, fired_late, get_or, get_or-set_other, get_or-set_same, inl, inr, is_link_timeout, is_timeout, later_replies, negsuc, request_after, none, phase, pollers, pos, refl, replied, reply_bits, request_at, ring_of, same_itself, set-get_or, settled, setup_of, stands_for, step, submits, subst, sym, ticks, ticks_of, tried, tried_idle, true, true≢false, word_of, ℕ, ℤ, ⊎_elim, ◌+◌, ◌<◌, ◌∙◌, ◌∷◌, ◌≡◌, ◌≢◌, ◌≤◌, ◌⊎◌}
 use Rattle.steps.proofs.CellNumbers.{one_word}
 use Rattle.steps.proofs.JournalGrowth.{placed_lasts, open_lasts, replies_last, replied_later, counted_in, legal_before}
 use Rattle.steps.proofs.ClaimWords.{says_of}
@@ -106,24 +106,24 @@ module _ (slots id : ℕ) (me : Seated) where
           ))))
 
       -- FIRE, at the target
-      fire_ends : Ends (Fire (next_of q) q) q
+      fire_ends : Ends (Fire (request_after q) q) q
       fire_ends = record { plain = record { open' = refl; live' = λ b. refl; flow' = λ h p. refl; lent' = λ j r. refl; fair' = λ M j. tt; begins' = refl }; concerns' = λ r. refl; answers' = same_itself q; data' = refl; clock' = λ m. refl }
 
-      late_quiet : Silent (FireMiss (next_of q) q)
+      late_quiet : Silent (FireMiss (request_after q) q)
       late_quiet = record { plain = record { open' = refl; live' = λ b. refl; flow' = λ h p. refl; lent' = λ j r. refl; fair' = λ M j. tt; begins' = refl }; concerns' = λ r. refl }
 
-      module _ (d : ℕ) (is_armed : phase (events_of v.seen) (next_of q) ≡ armed d) (due : d ≤ clock_of (events_of v.seen)) (target : IsTarget (events_of v.seen) (next_of q) q) (unfired : fired (events_of v.seen) (next_of q) ≡ false) where
+      module _ (d : ℕ) (is_armed : phase (events_of v.seen) (request_after q) ≡ armed d) (due : d ≤ clock_of (events_of v.seen)) (target : IsTarget (events_of v.seen) (request_after q) q) (unfired : fired (events_of v.seen) (request_after q) ≡ false) where
         -- what stands at the state that is found
-        due_now : (s : St) (r : Ruled L s) → There slots id me s → ((n : ℕ) × (phase (events_of r.past) (next_of q) ≡ armed n) × (n ≤ clock_of (events_of r.past))) × (fired (events_of r.past) (next_of q) ≡ false) × IsTarget (events_of r.past) (next_of q) q
+        due_now : (s : St) (r : Ruled L s) → There slots id me s → ((n : ℕ) × (phase (events_of r.past) (request_after q) ≡ armed n) × (n ≤ clock_of (events_of r.past))) × (fired (events_of r.past) (request_after q) ≡ false) × IsTarget (events_of r.past) (request_after q) q
         due_now s r at = let link = target.0 in let c = clock_now s r at in
-            let born' : (next_of q).k < submits (events_of v.seen) (next_of q).ring = counted_in (setup_of L) v.seen (next_of q) (armed d) (legal_before (setup_of L) (later slots id me s r at) v.seen (legal_now slots id me s r at)) is_armed (λ e. cc) in
-            ((d, armed_now (next_of q) d s r at link is_armed, omega arith), fired_now (next_of q) s r at ∙ unfired, ((link.0, placed_now (next_of q) link.0 s r at born' link.1, link.2), refl, refl))
+            let born' : (request_after q).k < submits (events_of v.seen) (request_after q).ring = counted_in (setup_of L) v.seen (request_after q) (armed d) (legal_before (setup_of L) (later slots id me s r at) v.seen (legal_now slots id me s r at)) is_armed (λ e. cc) in
+            ((d, armed_now (request_after q) d s r at link is_armed, omega arith), fired_now (request_after q) s r at ∙ unfired, ((link.0, placed_now (request_after q) link.0 s r at born' link.1, link.2), refl, refl))
 
         pub fire_allows : (M : Layout) (old new b : ℕ) (e : Entry) → v.role ≢ Spent → reply_bits (negsuc 124) b → IsIdleWord g old → new ≡ word_of Done (cause_bits by_fire (fails e (negsuc 124))) g b → IsPlaced (events_of v.seen) q e
             → Allows (Ruled M) slots id me (claim_at x) (λ n. either (eqb n old) new n) (tried_idle fired_at fired_late (step slots (claim_at x) old new none) me)
         fire_allows M old new b e live bits w is_new placed_is = tries_idle slots id me M fired_at fired_late x g w.1 old new w.0 live inside f w.3 w.4 w.2
-            (answers_does slots id me (Fire (next_of q) q) mine (λ _ _ _. has) x g b e by_fire (negsuc 124) fire_ends inside f bits w.0 w.1 w.2 w.3 new is_new
+            (answers_does slots id me (Fire (request_after q) q) mine (λ _ _ _. has) x g b e by_fire (negsuc 124) fire_ends inside f bits w.0 w.1 w.2 w.3 new is_new
             (λ s r at said. (let k = due_now s r at in ((k.0, k.1, k.2, (idle_says r.past q _ 0 w.1 w.0 w.2 said).0), refl, placed_now q e s r at born placed_is))))
-            (λ s r at run. (let same' = set-get_or s.words (claim_at x) 0 in silent_does slots id me (FireMiss (next_of q) q) mine (λ _ _ _. has) late_quiet (claim_at x) (get_or s.words (claim_at x) 0) s r at
+            (λ s r at run. (let same' = set-get_or s.words (claim_at x) 0 in silent_does slots id me (FireMiss (request_after q) q) mine (λ _ _ _. has) late_quiet (claim_at x) (get_or s.words (claim_at x) 0) s r at
             (let k = due_now s r at in (k.0, k.1, k.2, (says_of L.cells r.past x _ _ Running 0 g 0 (r.cells x inside) run (omega arith) f (omega arith)).0.2))
             (λ y ne. ap (λ z. get_or z y 0) same') (ap (λ z. get_or z 0 0) same' ∙ r.clock)))

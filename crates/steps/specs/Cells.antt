@@ -4,12 +4,13 @@ use Rattle.std.specs.Prelude.{◌≡◌, ℕ, suc, ◌+◌, ◌-◌, ◌*◌, �
 use mathlib.Core.Option as maybe
 use mathlib.Core.Option.{some}
 use lib.ListN.{get_elem?}
+use Rattle.claim.specs.declared.word.TheConstants.{GENERATIONS}
 use Rattle.claim.specs.declared.tag.Tag.{Tag}
 use Rattle.claim.specs.declared.tag.Tag.TheVariants.{Empty, Held, Ready, Running, Armed, Done}
 use Rattle.claim.specs.Claim.{packed}
 use Rattle.entry.specs.Entry.{Entry, fails}
 use Rattle.history.specs.declared.req.Req.{Req}
-use Rattle.history.specs.{Cause, by_reply, by_take, by_expire, by_count, by_fire, by_settle, by_sever, by_cut, submission, unborn, waits, runs, armed, replied, reaped, phase, data_of, is_timer, IsPlaced, Open, Flow, flow, content, untouched, Setup, IsOf}
+use Rattle.history.specs.{Cause, by_reply, by_take, by_expire, by_count, by_fire, by_settle, by_sever, by_cut, submission, unborn, waits, runs, armed, replied, reaped, phase, data_of, is_timer, IsPlaced, Open, Flow, flow, content, untouched, Setup, IsPlacedAs}
 use Rattle.steps.specs.declared.line.Line.{Line}
 use Rattle.steps.specs.declared.slot.Submission.{Submission}
 use Rattle.steps.specs.declared.slot.Thing.{Thing}
@@ -124,7 +125,7 @@ pub record Ages (K : List ℕ) (j : List Line) (x g : ℕ) : Type 0 where
 
 -- a worker may begin it
 abbrev pub MayBegin : List Line → Req → Type 0
-MayBegin j r = Open (events_of j) r × IsOf (events_of j) r is_timer false
+MayBegin j r = Open (events_of j) r × IsPlacedAs (events_of j) r is_timer false
 
 module _ (j : List Line) (r : Req) (home : Home) (cause payload : ℕ) where
   -- what the word says of its request, by its tag
@@ -142,7 +143,7 @@ pub record CellOk (K : List ℕ) (j : List Line) (x word : ℕ) (home : Home) : 
   pub cause : ℕ
   pub gen : ℕ
   pub payload : ℕ
-  pub fits : (cause < 16) × (gen < 16777216) × (payload < 4294967296)
+  pub fits : (cause < 16) × (gen < GENERATIONS) × (payload < 4294967296)
   pub word_is : word ≡ word_of tag cause gen payload
   pub says : Says j (request_at K x gen) home cause payload tag
   pub ages : Ages K j x gen
@@ -155,7 +156,7 @@ stands j p = (flow (events_of j) p, lying j p)
 abbrev pub PipeIn : List ℕ → ℕ → ℕ → Option Thing → Flow × List Req → Type 0
 PipeIn caps cells p None w = length caps < suc p
 PipeIn caps cells p (Some (Full x)) w = ⊥
-PipeIn caps cells p (Some (Piped v)) w = (v.pipe.cap ≡ slice_index caps p) × (v.pipe.content ≡ content w.0) × (v.pipe.read_shut ≡ w.0.read_shut) × (v.pipe.write_shut ≡ w.0.write_shut) × (v.lying.items ≡ w.1) × (vec_capacity v.lying ≡ cells)
+PipeIn caps cells p (Some (Piped v)) w = (v.pipe.cap ≡ slice_index caps p) × (v.pipe.content ≡ content w.0) × (v.pipe.read_closed ≡ w.0.read_closed) × (v.pipe.write_closed ≡ w.0.write_closed) × (v.lying.items ≡ w.1) × (vec_capacity v.lying ≡ cells)
 
 abbrev pub PipeIs : Layout → ℕ → Option Thing → Flow × List Req → Type 0
 PipeIs L p o w = PipeIn L.caps (total L.cells) p o w

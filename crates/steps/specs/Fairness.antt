@@ -1,10 +1,11 @@
 -- What each line of the journal asks for, beside that its history is legal: who may change a pipe, who is moved to Ready, when a cell goes on to its next request, and what stands in its notes.
 use Rattle.std.specs.Prelude.{◌≡◌, ◌⊎◌, ℕ, ◌+◌, ◌*◌, ◌%◌, ◌<◌, Bool, true, false, ℤ, List, [], ◌∷◌, Some, None}
+use Rattle.claim.specs.declared.word.TheConstants.{GENERATIONS}
 use Rattle.entry.specs.Entry.{Entry, fails}
 use Rattle.history.specs.declared.req.Req.{Req}
 use Rattle.history.specs.declared.event.Event.{Event}
 use Rattle.history.specs.declared.event.Event.TheVariants.{Submit, Park, Reply, Reap}
-use Rattle.history.specs.{Cause, Phase, unborn, waits, replied, reaped, Submitted, submission, phase, reply, hit, nothing, placed, Open, is_timer, is_timeout, IsPlaced, IsChainDone, OpAnswers, is_pipe, uses_at, uses_at_in, flow, IsOf, count_of}
+use Rattle.history.specs.{Cause, Phase, unborn, waits, replied, reaped, Submitted, submission, phase, reply, hit, nothing, placed, Open, is_timer, is_timeout, IsPlaced, IsChainDone, OpAnswers, is_pipe, uses_at, uses_at_in, flow, IsPlacedAs, count_of}
 use Rattle.steps.specs.declared.line.Laid.{Laid}
 use Rattle.steps.specs.declared.line.Laid.TheVariants.{NoRequest}
 use Rattle.steps.specs.declared.line.Line.{Line}
@@ -47,17 +48,17 @@ NotesTell K j x = (g : ℕ) (y : Submitted) (d : Entry) → submission (events_o
 
 -- what the facts of the cell x say of its request of generation g once that was reaped: while they are its own they have its outcome, and once they are another one's its whole chain has replied
 pub record FactsLeft (K : List ℕ) (j : List Line) (x g : ℕ) (y : Submitted) (d : Entry) : Type 0 where
-  pub outcome : (res : ℤ) → reply (events_of j) (request_at K x g) ≡ Some res → noted j (facts_at x) % 16777216 ≡ g → noted j (facts_at x) ≡ outcome_of (facts_of g d y.last) (fails d res)
-  pub done : ¬ (noted j (facts_at x) % 16777216 ≡ g) → IsChainDone (events_of j) (request_at K x g)
+  pub outcome : (res : ℤ) → reply (events_of j) (request_at K x g) ≡ Some res → noted j (facts_at x) % GENERATIONS ≡ g → noted j (facts_at x) ≡ outcome_of (facts_of g d y.last) (fails d res)
+  pub done : ¬ (noted j (facts_at x) % GENERATIONS ≡ g) → IsChainDone (events_of j) (request_at K x g)
 
 -- the same of each request of the cell that was reaped
 abbrev pub FactsTell : List ℕ → List Line → ℕ → Type 0
-FactsTell K j x = (g : ℕ) (y : Submitted) (d : Entry) → g < 16777216 → submission (events_of j) (request_at K x g) ≡ Some y → IsPlaced (events_of j) (request_at K x g) d → IsReaped (phase (events_of j) (request_at K x g)) → FactsLeft K j x g y d
+FactsTell K j x = (g : ℕ) (y : Submitted) (d : Entry) → g < GENERATIONS → submission (events_of j) (request_at K x g) ≡ Some y → IsPlaced (events_of j) (request_at K x g) d → IsReaped (phase (events_of j) (request_at K x g)) → FactsLeft K j x g y d
 
 -- a store of the facts takes the slot: of a request that comes to a cell that is free for it, or of one that has replied, with the outcome
 abbrev pub IsFactsNote : List ℕ → List Line → Req → ℕ → ℕ → Phase → Type 0
-IsFactsNote K j r word value unborn = (x : ℕ) × (g : ℕ) × (n : ℕ) × IsIn K r x g × (g < 16777216) × (word ≡ facts_at x) × (value ≡ g + 16777216 * n) × IsFree K (events_of j) r
-IsFactsNote K j r word value (replied c res) = (x : ℕ) × (g : ℕ) × (e : Entry) × IsIn K r x g × (g < 16777216) × (word ≡ facts_at x) × IsPlaced (events_of j) r e × (value ≡ outcome_of (noted j (facts_at x)) (fails e res))
+IsFactsNote K j r word value unborn = (x : ℕ) × (g : ℕ) × (n : ℕ) × IsIn K r x g × (g < GENERATIONS) × (word ≡ facts_at x) × (value ≡ g + GENERATIONS * n) × IsFree K (events_of j) r
+IsFactsNote K j r word value (replied c res) = (x : ℕ) × (g : ℕ) × (e : Entry) × IsIn K r x g × (g < GENERATIONS) × (word ≡ facts_at x) × IsPlaced (events_of j) r e × (value ≡ outcome_of (noted j (facts_at x)) (fails e res))
 IsFactsNote K j r word value _ = ⊥
 
 -- the request has no answer, and its entry names the pipe p
@@ -80,7 +81,7 @@ Fair L j (Did (Submit r e bytes last)) = IsFree L.cells (events_of j) r × AreNo
 Fair L j (Did (Reply r res data')) = (p : ℕ) → is_pipe L.caps p ≡ true → uses_at_in (placed (events_of j) r) p ≡ true → holder j p ≡ Some r
 Fair L j (Did (Park r)) = hit (events_of j) r ≡ nothing
 Fair L j (Did (Reap r)) = lent j r ≡ true
-Fair L j (Freed r) = (phase (events_of j) r ≡ waits) × Open (events_of j) r × IsOf (events_of j) r is_timer false × (freed j r ≡ false)
+Fair L j (Freed r) = (phase (events_of j) r ≡ waits) × Open (events_of j) r × IsPlacedAs (events_of j) r is_timer false × (freed j r ≡ false)
 Fair L j (Lent r word value) = IsFactsNote L.cells j r word value (phase (events_of j) r)
 Fair L j (Noted r word value) = (x : ℕ) × (g : ℕ) × (i : ℕ) × IsIn L.cells r x g × ((0 < i) × (i < 3)) × (word ≡ note_at x i) × (phase (events_of j) r ≡ unborn) × IsFree L.cells (events_of j) r
 Fair L j (Hold r p) = holder j p ≡ None

@@ -3,6 +3,7 @@ use Rattle.std.specs.Prelude.{◌≡◌, ◌≢◌, ℕ, suc, ◌<◌, Bool, tru
 use Rattle.atomic_table.specs.Table.{Me, Step, rest}
 use Rattle.atomic_table.specs.Seated.{TableId}
 use Rattle.atomic_table.specs.declared.shared.Seat.{Seat}
+use Rattle.claim.specs.declared.word.TheConstants.{GENERATIONS}
 use Rattle.claim.specs.declared.tag.Tag.{Tag}
 use Rattle.claim.specs.declared.tag.Tag.TheVariants.{Held, Ready, Running, Armed, Done}
 use Rattle.entry.specs.Entry.{Entry}
@@ -40,7 +41,7 @@ noticed st m n m' = Looks m.0 m'.0 × (m'.1 ≡ m.1) × ((x i : ℕ) → st.word
 -- of an exchange of a claim word with this tag: P of the cell and the request where it was found, else what a load tells
 abbrev pub tried : Tag → (At → Seated → ℕ → Req → Seated → Type 0) → At → Seated → ℕ → Seated → Type 0
 tried tag P st m n m' =
-    (n ≡ st.first → (x g p : ℕ) → st.word ≡ claim_at x → IsCell m.0.layout.cells x → g < 16777216 → p < 4294967296 → st.first ≡ word_of tag 0 g p → P st m x (request_at m.0.layout.cells x g) m')
+    (n ≡ st.first → (x g p : ℕ) → st.word ≡ claim_at x → IsCell m.0.layout.cells x → g < GENERATIONS → p < 4294967296 → st.first ≡ word_of tag 0 g p → P st m x (request_at m.0.layout.cells x g) m')
     × (n ≢ st.first → looked st m n m') × IsStep st.word n m.0 m'.0
 
 -- the tag of a request that was submitted, has no reply and does not run
@@ -57,13 +58,13 @@ IsIdleWord g word = (t : Tag) × (p : ℕ) × (is_idle t ≡ true) × (p < 42949
 -- of an exchange of the word of a request that is not running: P where it was found so, Q where a refused exchange found it Running, else what a load tells. A cancel and a firing step so
 abbrev pub tried_idle : (At → Seated → ℕ → Req → Seated → Type 0) → (At → Seated → ℕ → Req → Seated → Type 0) → At → Seated → ℕ → Seated → Type 0
 tried_idle P Q st m n m' =
-    (n ≡ st.first → (x g : ℕ) → st.word ≡ claim_at x → IsCell m.0.layout.cells x → g < 16777216 → IsIdleWord g st.first → P st m x (request_at m.0.layout.cells x g) m')
-    × ((x g : ℕ) → st.word ≡ claim_at x → IsCell m.0.layout.cells x → g < 16777216 → IsIdleWord g st.first → n ≡ word_of Running 0 g 0 → Q st m x (request_at m.0.layout.cells x g) m')
-    × (n ≢ st.first → ((x g : ℕ) → st.word ≡ claim_at x → g < 16777216 → IsIdleWord g st.first → n ≢ word_of Running 0 g 0) → looked st m n m') × IsStep st.word n m.0 m'.0
+    (n ≡ st.first → (x g : ℕ) → st.word ≡ claim_at x → IsCell m.0.layout.cells x → g < GENERATIONS → IsIdleWord g st.first → P st m x (request_at m.0.layout.cells x g) m')
+    × ((x g : ℕ) → st.word ≡ claim_at x → IsCell m.0.layout.cells x → g < GENERATIONS → IsIdleWord g st.first → n ≡ word_of Running 0 g 0 → Q st m x (request_at m.0.layout.cells x g) m')
+    × (n ≢ st.first → ((x g : ℕ) → st.word ≡ claim_at x → g < GENERATIONS → IsIdleWord g st.first → n ≢ word_of Running 0 g 0) → looked st m n m') × IsStep st.word n m.0 m'.0
 
 -- of an exchange of a claim word that is known: P of the cell and the request
 abbrev pub sure : Tag → (At → Seated → ℕ → Req → Seated → Type 0) → At → Seated → ℕ → Seated → Type 0
-sure tag P st m n m' = (n ≡ st.first) × ((x c g p : ℕ) → st.word ≡ claim_at x → IsCell m.0.layout.cells x → c < 16 → g < 16777216 → p < 4294967296 → st.first ≡ word_of tag c g p → P st m x (request_at m.0.layout.cells x g) m') × IsStep st.word n m.0 m'.0
+sure tag P st m n m' = (n ≡ st.first) × ((x c g p : ℕ) → st.word ≡ claim_at x → IsCell m.0.layout.cells x → c < 16 → g < GENERATIONS → p < 4294967296 → st.first ≡ word_of tag c g p → P st m x (request_at m.0.layout.cells x g) m') × IsStep st.word n m.0 m'.0
 
 abbrev pub released : At → Seated → ℕ → Req → Seated → Type 0
 released st m x r m' = Extends m.0 (Freed r) m.0.role m'.0 × (m'.1 ≡ m.1)
@@ -73,7 +74,7 @@ severed st m x r m' = Extends m.0 (Did (Sever r)) m.0.role m'.0 × (m'.1 ≡ m.1
 
 -- the new word has the deadline
 abbrev pub armed_for : At → Seated → ℕ → Req → Seated → Type 0
-armed_for st m x r m' = (g d : ℕ) → g < 16777216 → d < 4294967296 → st.second ≡ word_of Armed 0 g d → Extends m.0 (Did (Arm r d)) m.0.role m'.0 × (m'.1 ≡ m.1)
+armed_for st m x r m' = (g d : ℕ) → g < GENERATIONS → d < 4294967296 → st.second ≡ word_of Armed 0 g d → Extends m.0 (Did (Arm r d)) m.0.role m'.0 × (m'.1 ≡ m.1)
 
 abbrev pub expired : At → Seated → ℕ → Req → Seated → Type 0
 expired st m x r m' = Extends m.0 (Did (Expire r)) m.0.role m'.0 × (m'.1 ≡ m.1)
@@ -85,14 +86,14 @@ abbrev pub settled : At → Seated → ℕ → Req → Seated → Type 0
 settled st m x r m' = Extends m.0 (Did (Settle r)) m.0.role m'.0 × (m'.1 ≡ m.1)
 
 -- the request after this one in its ring, whose target it is if that is a LINK_TIMEOUT
-abbrev pub next_of : Req → Req
-next_of r = record { ring = r.ring; k = suc r.k }
+abbrev pub request_after : Req → Req
+request_after r = record { ring = r.ring; k = suc r.k }
 
 abbrev pub fired_at : At → Seated → ℕ → Req → Seated → Type 0
-fired_at st m x r m' = Extends m.0 (Did (Fire (next_of r) r)) m.0.role m'.0 × (m'.1 ≡ m.1)
+fired_at st m x r m' = Extends m.0 (Did (Fire (request_after r) r)) m.0.role m'.0 × (m'.1 ≡ m.1)
 
 abbrev pub fired_late : At → Seated → ℕ → Req → Seated → Type 0
-fired_late st m x r m' = Extends m.0 (Did (FireMiss (next_of r) r)) m.0.role m'.0 × (m'.1 ≡ m.1)
+fired_late st m x r m' = Extends m.0 (Did (FireMiss (request_after r) r)) m.0.role m'.0 × (m'.1 ≡ m.1)
 
 -- a cancel that the seat runs takes the request, or finds it running
 abbrev pub taken : At → Seated → ℕ → Req → Seated → Type 0
@@ -118,7 +119,7 @@ submitted st m x r m' = (p : Submission) → m.1 ≡ (slot_at x, Some (Full p)) 
 
 -- the new word has the result, which is the entry's reply with these data; the seat has this role after it
 abbrev pub replied_with : (Req → Role) → At → Seated → ℕ → Req → Seated → Type 0
-replied_with after st m x r m' = (g c b : ℕ) (res : ℤ) (e : Entry) (data' : List ℕ) → g < 16777216 → c < 16 → b < 4294967296 → reply_bits res b → st.second ≡ word_of Done c g b
+replied_with after st m x r m' = (g c b : ℕ) (res : ℤ) (e : Entry) (data' : List ℕ) → g < GENERATIONS → c < 16 → b < 4294967296 → reply_bits res b → st.second ≡ word_of Done c g b
     → IsPlaced (events_of m.0.seen) r e → OpAnswers m.0.layout.caps (events_of m.0.seen) r e.op res data' → Extends m.0 (Did (Reply r res data')) (after r) m'.0 × (m'.1 ≡ rest m.1)
 
 abbrev pub parked : At → Seated → ℕ → Req → Seated → Type 0

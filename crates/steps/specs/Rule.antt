@@ -272,8 +272,8 @@ pub record IsDone (seen : List Line) (r : Req) (g word : ℕ) : Type 0 where
   pub word_is : word ≡ word_of Done (cause_bits cause (fails entry res)) g bits
 
 -- the facts of the request in the cell x with the outcome of its reply
-abbrev pub IsOutcome : List Line → Req → ℕ → ℕ → Type 0
-IsOutcome j r x value = (c : Cause) × (res : ℤ) × (e : Entry) × (phase (events_of j) r ≡ replied c res) × IsPlaced (events_of j) r e × (value ≡ outcome_of (noted j (facts_at x)) (fails e res))
+abbrev pub IsOutcomeNote : List Line → Req → ℕ → ℕ → Type 0
+IsOutcomeNote j r x value = (c : Cause) × (res : ℤ) × (e : Entry) × (phase (events_of j) r ≡ replied c res) × IsPlaced (events_of j) r e × (value ≡ outcome_of (noted j (facts_at x)) (fails e res))
 
 -- how the poller's seat is cut: the submitter of the next ring leaves it, or a worker
 abbrev pub next_poller : Role → Role

@@ -1,6 +1,7 @@
 //! The step of a worker that runs a cancel, at the request that it is meant for.
 ghost use Rattle.std.specs.Prelude.{◌≡◌, ◌≢◌, ℕ, ◌<◌, negsuc};
 ghost use Rattle.claim.specs.declared.tag.Tag.TheVariants.{Running};
+ghost use Rattle.claim.specs.declared.word.TheConstants.{GENERATIONS};
 ghost use Rattle.entry.specs.Entry.{Entry, fails as fails_with};
 ghost use Rattle.history.specs.declared.event.Event.TheVariants.{Take, Miss};
 ghost use Rattle.history.specs.declared.req.Req.{Req};
@@ -25,7 +26,7 @@ pub fn take(
     fails: bool,
 ) -> u64
     requires fits { Fits words.now.table_id seat.old cell }
-    requires small { generation < 16777216 }
+    requires small { generation < GENERATIONS }
     requires submitted { (request_at seat.old.me.0.layout.cells cell generation).k < submits (events_of seat.old.me.0.seen) (ring_of seat.old.me.0.layout.cells cell) }
     requires cancel { (c : Req) × (seat.old.me.0.role ≡ Busy c) × MayHit (events_of seat.old.me.0.seen) c (request_at seat.old.me.0.layout.cells cell generation) }
     requires found { IsIdleWord generation found }

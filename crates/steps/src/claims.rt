@@ -1,6 +1,7 @@
 //! The claim words that steps write and look for.
 ghost use Rattle.std.specs.Prelude.{◌≡◌, ◌≢◌, ◌⊎◌, ◌<◌, ℕ, List, pos, negsuc, false, cond, IfSome, IfNone};
 ghost use Rattle.claim.specs.declared.tag.Tag.TheVariants.{Empty, Held, Ready, Armed, Done};
+ghost use Rattle.claim.specs.declared.word.TheConstants.{GENERATIONS};
 ghost use Rattle.history.specs.History.{by_reply, by_take, by_expire, by_count, by_fire, by_settle, by_sever, phase, unborn, IsReplied};
 ghost use Rattle.steps.specs.declared.claims.Standing.TheVariants.{Idle, Running, Over};
 ghost use Rattle.steps.specs.declared.line.Line.{Line};
@@ -16,7 +17,7 @@ const TIMED_OUT: i32 = -62;
 
 /// No request yet of this generation.
 pub fn empty(generation: u32) -> u64
-    requires { generation < 16777216 }
+    requires { generation < GENERATIONS }
     ensures { result ≡ word_of Empty 0 generation 0 }
 {
     pack(ClaimWord::empty(generation))
@@ -24,7 +25,7 @@ pub fn empty(generation: u32) -> u64
 
 /// The request of this generation was submitted.
 pub(crate) fn held(generation: u32) -> u64
-    requires { generation < 16777216 }
+    requires { generation < GENERATIONS }
     ensures { result ≡ word_of Held 0 generation 0 }
 {
     pack(ClaimWord::held(generation))
@@ -32,7 +33,7 @@ pub(crate) fn held(generation: u32) -> u64
 
 /// A worker may begin the request.
 pub fn ready(generation: u32) -> u64
-    requires { generation < 16777216 }
+    requires { generation < GENERATIONS }
     ensures { result ≡ word_of Ready 0 generation 0 }
 {
     pack(ClaimWord::ready(generation))
@@ -40,7 +41,7 @@ pub fn ready(generation: u32) -> u64
 
 /// A worker runs the request.
 pub(crate) fn running(generation: u32) -> u64
-    requires { generation < 16777216 }
+    requires { generation < GENERATIONS }
     ensures { result ≡ word_of Tag.Running 0 generation 0 }
 {
     pack(ClaimWord::running(generation))
@@ -48,7 +49,7 @@ pub(crate) fn running(generation: u32) -> u64
 
 /// A worker answered the request.
 pub(crate) fn done(generation: u32, fails: bool, res: i32) -> u64
-    requires { generation < 16777216 }
+    requires { generation < GENERATIONS }
     ensures { (b : ℕ) → reply_bits res b → result ≡ word_of Done (cause_bits by_reply fails) generation b }
 {
     pack(ClaimWord::done(generation, Cause::Reply, fails, res))
@@ -56,7 +57,7 @@ pub(crate) fn done(generation: u32, fails: bool, res: i32) -> u64
 
 /// The request was ended by the failure of an earlier member of its chain.
 pub(crate) fn severed(generation: u32, fails: bool) -> u64
-    requires { generation < 16777216 }
+    requires { generation < GENERATIONS }
     ensures { (b : ℕ) → reply_bits (negsuc 124) b → result ≡ word_of Done (cause_bits by_sever fails) generation b }
 {
     pack(ClaimWord::done(generation, Cause::Sever, fails, CANCELED))
@@ -64,7 +65,7 @@ pub(crate) fn severed(generation: u32, fails: bool) -> u64
 
 /// The timer of this generation runs out at a time of the clock, in ticks.
 pub(crate) fn armed(generation: u32, deadline: u32) -> u64
-    requires { generation < 16777216 }
+    requires { generation < GENERATIONS }
     ensures { result ≡ word_of Armed 0 generation deadline }
 {
     pack(ClaimWord::armed(generation, deadline))
@@ -72,7 +73,7 @@ pub(crate) fn armed(generation: u32, deadline: u32) -> u64
 
 /// A cancel took the request.
 pub(crate) fn taken(generation: u32, fails: bool) -> u64
-    requires { generation < 16777216 }
+    requires { generation < GENERATIONS }
     ensures { (b : ℕ) → reply_bits (negsuc 124) b → result ≡ word_of Done (cause_bits by_take fails) generation b }
 {
     pack(ClaimWord::done(generation, Cause::Take, fails, CANCELED))
@@ -80,7 +81,7 @@ pub(crate) fn taken(generation: u32, fails: bool) -> u64
 
 /// The TIMEOUT ran out.
 pub(crate) fn expired(generation: u32, fails: bool) -> u64
-    requires { generation < 16777216 }
+    requires { generation < GENERATIONS }
     ensures { (b : ℕ) → reply_bits (negsuc 61) b → result ≡ word_of Done (cause_bits by_expire fails) generation b }
 {
     pack(ClaimWord::done(generation, Cause::Expire, fails, TIMED_OUT))
@@ -88,7 +89,7 @@ pub(crate) fn expired(generation: u32, fails: bool) -> u64
 
 /// The TIMEOUT has counted enough completions.
 pub(crate) fn counted(generation: u32) -> u64
-    requires { generation < 16777216 }
+    requires { generation < GENERATIONS }
     ensures { (b : ℕ) → reply_bits (pos 0) b → result ≡ word_of Done (cause_bits by_count false) generation b }
 {
     pack(ClaimWord::done(generation, Cause::Count, false, 0))
@@ -96,7 +97,7 @@ pub(crate) fn counted(generation: u32) -> u64
 
 /// The request was ended by its LINK_TIMEOUT.
 pub(crate) fn fired(generation: u32, fails: bool) -> u64
-    requires { generation < 16777216 }
+    requires { generation < GENERATIONS }
     ensures { (b : ℕ) → reply_bits (negsuc 124) b → result ≡ word_of Done (cause_bits by_fire fails) generation b }
 {
     pack(ClaimWord::done(generation, Cause::Fire, fails, CANCELED))
@@ -104,7 +105,7 @@ pub(crate) fn fired(generation: u32, fails: bool) -> u64
 
 /// The LINK_TIMEOUT ran out in time, or else its target replied before.
 pub(crate) fn settled(generation: u32, in_time: bool) -> u64
-    requires { generation < 16777216 }
+    requires { generation < GENERATIONS }
     ensures { (b : ℕ) → reply_bits (cond in_time (negsuc 61) (negsuc 124)) b → result ≡ word_of Done (cause_bits by_settle false) generation b }
 {
     let reply = if in_time { TIMED_OUT } else { CANCELED };
@@ -124,7 +125,7 @@ pub enum Standing {
 
 /// Where the request of this generation stands, as the word of its cell tells.
 pub fn stands_at(word: u64, generation: u32) -> Standing
-    requires { generation < 16777216 }
+    requires { generation < GENERATIONS }
     ensures idle { result ≡ Idle → IsIdleWord generation word }
     ensures running { result ≡ Running → word ≡ word_of Tag.Running 0 generation 0 }
     ensures still { result ≡ Over → word ≢ word_of Tag.Running 0 generation 0 }
@@ -146,7 +147,7 @@ pub fn stands_at(word: u64, generation: u32) -> Standing
 /// The word that an exchange looks for, of a request whose claim word was found so: the same, or that of a Ready request where
 /// it was running. None where the request is over.
 pub fn looked_for(found: u64, generation: u32) -> Option<u64>
-    requires { generation < 16777216 }
+    requires { generation < GENERATIONS }
     ensures some { IfSome result (λ e. IsIdleWord generation e × ((e ≡ found) ⊎ ((found ≡ word_of Tag.Running 0 generation 0) × (e ≡ word_of Ready 0 generation 0)))) }
     ensures none { IfNone result ((K : List ℕ) (j : List Line) (x : ℕ) → Shown K j x found → phase (events_of j) (request_at K x generation) ≢ unborn → IsReplied (phase (events_of j) (request_at K x generation))) }
 {

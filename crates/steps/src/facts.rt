@@ -1,5 +1,7 @@
 //! What a submitter notes of its request: the word of facts, and the count of a TIMEOUT.
-ghost use Rattle.std.specs.Prelude.{◌≡◌, ℕ, ◌+◌, ◌*◌, ◌<◌, Option};
+ghost use Rattle.std.specs.Prelude.{◌≡◌, ◌≤◌, ℕ, ◌+◌, ◌*◌, ◌<◌, Option};
+ghost use Rattle.limits.specs.declared.TheConstants.{TICK};
+ghost use Rattle.claim.specs.declared.word.TheConstants.{GENERATIONS};
 ghost use Rattle.history.specs.{Submitted, hosts, placed_behind};
 ghost use Rattle.steps.specs.Notes.{count_in, etime_in, facts_of, row_number, ticks_in};
 
@@ -99,7 +101,7 @@ fn row_number(op: Op) -> u8
 /// The ticks of a timer, and 0 for any other entry.
 fn ticks_in(sqe: &Sqe) -> u32
     ensures ticks { result ≡ ticks_in sqe.now.op }
-    ensures small { result < 2147483648 }
+    ensures small { result ≤ TICK }
 {
     let _fits = sqe.row();
     by_opcode!(ticks_in!(sqe.op()))
@@ -121,9 +123,9 @@ fn etime_in(op: Op) -> bool
 
 /// The facts of a request of this generation, as it is placed: a LINK_TIMEOUT as Invalid, unless the entry before it hosts one.
 pub(crate) fn facts(generation: u32, sqe: &Sqe, last: bool, hosted: bool) -> u64
-    requires { generation < 16777216 }
+    requires { generation < GENERATIONS }
     ensures facts { (before : Option Submitted) → hosted ≡ hosts before → result ≡ facts_of generation (placed_behind before sqe.now) last }
-    ensures generation { (n : ℕ) × (result ≡ generation + 16777216 * n) }
+    ensures generation { (n : ℕ) × (result ≡ generation + GENERATIONS * n) }
 {
     let misplaced = sqe.op().is_link_timeout() && !hosted;
     let ticks = ticks_in(sqe);

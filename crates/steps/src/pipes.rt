@@ -3,6 +3,7 @@
 ghost use Rattle.std.specs.Prelude.{◌≡◌, ◌≢◌, ℕ, ◌+◌, ◌<◌, true, List, length, Some};
 ghost use Rattle.atomic_table.specs.Table.{rest};
 ghost use Rattle.claim.specs.declared.tag.Tag.TheVariants.{Running};
+ghost use Rattle.claim.specs.declared.word.TheConstants.{GENERATIONS};
 ghost use Rattle.entry.specs.Entry.{Entry, fails as fails_with};
 ghost use Rattle.history.specs.declared.event.Event.TheVariants.{Reply};
 ghost use Rattle.history.specs.declared.req.Req.{Req};
@@ -111,7 +112,7 @@ pub fn free_one(words: &Words, seat: &mut TableSeat, one: usize, laid: Laid)
 #[inline(always)]
 fn reply_holding(words: &Words, seat: &mut TableSeat, response: Response)
     requires fits { Fits words.now.table_id seat.old response.cell }
-    requires small { response.generation < 16777216 }
+    requires small { response.generation < GENERATIONS }
     requires busy { seat.old.me.0.role ≡ Busy (request_at seat.old.me.0.layout.cells response.cell response.generation) }
     requires answer { (e : Entry) × (data' : List ℕ) × MayReply seat.old.me response.cell (request_at seat.old.me.0.layout.cells response.cell response.generation) e response.res data' × (response.fails ≡ fails_with e response.res) }
     ensures seat { IsSameSeat seat.old seat.new × (seat.new.me.1 ≡ rest seat.old.me.1) }
@@ -139,7 +140,7 @@ fn leave(words: &Words, seat: &mut TableSeat, pipe: usize)
 pub fn reply(words: &Words, seat: &mut TableSeat, response: Response, pipe: usize)
     requires fits { Fits words.now.table_id seat.old response.cell }
     requires pipe_fits { FitsPipe words.now.table_id seat.old pipe }
-    requires small { response.generation < 16777216 }
+    requires small { response.generation < GENERATIONS }
     requires busy { seat.old.me.0.role ≡ Busy (request_at seat.old.me.0.layout.cells response.cell response.generation) }
     requires alone { HasAlone seat.old.me.0.seen pipe (request_at seat.old.me.0.layout.cells response.cell response.generation) }
     requires answer { (e : Entry) × (data' : List ℕ) × MayReply seat.old.me response.cell (request_at seat.old.me.0.layout.cells response.cell response.generation) e response.res data' × (response.fails ≡ fails_with e response.res) × HasPipeAfter seat.old.me pipe (request_at seat.old.me.0.layout.cells response.cell response.generation) e response.res }
@@ -198,7 +199,7 @@ pub fn reply_both(
 )
     requires fits { Fits words.now.table_id seat.old response.cell }
     requires pipes_fit { FitsPipe words.now.table_id seat.old first × FitsPipe words.now.table_id seat.old second }
-    requires small { response.generation < 16777216 }
+    requires small { response.generation < GENERATIONS }
     requires busy { seat.old.me.0.role ≡ Busy (request_at seat.old.me.0.layout.cells response.cell response.generation) }
     requires both { HasBoth seat.old.me.0.seen first second (request_at seat.old.me.0.layout.cells response.cell response.generation) }
     requires answer { (e : Entry) × (data' : List ℕ) × MayReply seat.old.me response.cell (request_at seat.old.me.0.layout.cells response.cell response.generation) e response.res data' × (response.fails ≡ fails_with e response.res) × HasPipesAfter seat.old.me first second (request_at seat.old.me.0.layout.cells response.cell response.generation) e response.res }

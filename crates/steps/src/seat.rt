@@ -2,6 +2,7 @@
 ghost use Rattle.std.specs.Prelude.{◌≡◌, ◌≢◌, ℕ, ◌+◌, ◌*◌, ◌<◌, true, negsuc, List, [], Some};
 ghost use Rattle.atomic_table.specs.Table.{rest};
 ghost use Rattle.claim.specs.declared.tag.Tag.TheVariants.{Held, Ready, Running};
+ghost use Rattle.claim.specs.declared.word.TheConstants.{GENERATIONS};
 ghost use Rattle.entry.specs.Entry.{Entry, fails as fails_with};
 ghost use Rattle.history.specs.declared.event.Event.TheVariants.{Begin, Park, Reply, Sever};
 ghost use Rattle.history.specs.{IsPlaced, Severed, hit, nothing, submits};
@@ -55,7 +56,7 @@ pub fn look_at_note(words: &Words, seat: &mut TableSeat, cell: usize, number: us
 pub fn release(words: &Words, seat: &mut TableSeat, cell: usize, generation: u32) -> bool
     requires fits { Fits words.now.table_id seat.old cell }
     requires poller { ((n : ℕ) × (seat.old.me.0.role ≡ Poller n)) × (0 < seat.old.me.0.parts) }
-    requires small { generation < 16777216 }
+    requires small { generation < GENERATIONS }
     requires submitted { (request_at seat.old.me.0.layout.cells cell generation).k < submits (events_of seat.old.me.0.seen) (ring_of seat.old.me.0.layout.cells cell) }
     requires may { MayBegin seat.old.me.0.seen (request_at seat.old.me.0.layout.cells cell generation) }
     ensures seat { IsSameSeat seat.old seat.new × (seat.new.me.1 ≡ seat.old.me.1) }
@@ -75,7 +76,7 @@ pub fn release(words: &Words, seat: &mut TableSeat, cell: usize, generation: u32
 pub fn sever(words: &Words, seat: &mut TableSeat, cell: usize, generation: u32, fails: bool) -> bool
     requires fits { Fits words.now.table_id seat.old cell }
     requires poller { ((n : ℕ) × (seat.old.me.0.role ≡ Poller n)) × (0 < seat.old.me.0.parts) }
-    requires small { generation < 16777216 }
+    requires small { generation < GENERATIONS }
     requires submitted { (request_at seat.old.me.0.layout.cells cell generation).k < submits (events_of seat.old.me.0.seen) (ring_of seat.old.me.0.layout.cells cell) }
     requires may { Severed (events_of seat.old.me.0.seen) (request_at seat.old.me.0.layout.cells cell generation) }
     requires fails { (e : Entry) × IsPlaced (events_of seat.old.me.0.seen) (request_at seat.old.me.0.layout.cells cell generation) e × (fails ≡ fails_with e (negsuc 124)) }
@@ -94,7 +95,7 @@ pub fn sever(words: &Words, seat: &mut TableSeat, cell: usize, generation: u32, 
 pub fn begin(words: &Words, seat: &mut TableSeat, cell: usize, generation: u32) -> bool
     requires fits { Fits words.now.table_id seat.old cell }
     requires idle { (seat.old.me.0.role ≡ Idle) × (0 < seat.old.me.0.parts) }
-    requires small { generation < 16777216 }
+    requires small { generation < GENERATIONS }
     ensures seat { IsSameSeat seat.old seat.new }
     ensures begins { result ≡ true → Extends seat.old.me.0 (Did (Begin (request_at seat.old.me.0.layout.cells cell generation))) (Busy (request_at seat.old.me.0.layout.cells cell generation)) seat.new.me.0 × Hands seat.new.me cell (request_at seat.old.me.0.layout.cells cell generation) [] seat.old.me.1 × ((p : ℕ) → holder seat.new.me.0.seen p ≢ Some (request_at seat.old.me.0.layout.cells cell generation)) }
     ensures step { result ≡ true → IsStep (claim_at cell) (word_of Ready 0 generation 0) seat.old.me.0 seat.new.me.0 }
@@ -110,7 +111,7 @@ pub fn begin(words: &Words, seat: &mut TableSeat, cell: usize, generation: u32) 
 #[inline(always)]
 pub fn reply(words: &Words, seat: &mut TableSeat, response: Response)
     requires fits { Fits words.now.table_id seat.old response.cell }
-    requires small { response.generation < 16777216 }
+    requires small { response.generation < GENERATIONS }
     requires busy { seat.old.me.0.role ≡ Busy (request_at seat.old.me.0.layout.cells response.cell response.generation) }
     requires bare { (p : ℕ) → holder seat.old.me.0.seen p ≢ Some (request_at seat.old.me.0.layout.cells response.cell response.generation) }
     requires answer { (e : Entry) × (data' : List ℕ) × MayReply seat.old.me response.cell (request_at seat.old.me.0.layout.cells response.cell response.generation) e response.res data' × (response.fails ≡ fails_with e response.res) }
@@ -127,7 +128,7 @@ pub fn reply(words: &Words, seat: &mut TableSeat, response: Response)
 /// Puts the request that this seat runs back to Ready. It is no cancel that took a request, or found one running.
 pub fn park(words: &Words, seat: &mut TableSeat, cell: usize, generation: u32)
     requires fits { Fits words.now.table_id seat.old cell }
-    requires small { generation < 16777216 }
+    requires small { generation < GENERATIONS }
     requires busy { seat.old.me.0.role ≡ Busy (request_at seat.old.me.0.layout.cells cell generation) }
     requires submission { Hands seat.old.me cell (request_at seat.old.me.0.layout.cells cell generation) [] (rest seat.old.me.1) }
     requires unhit { hit (events_of seat.old.me.0.seen) (request_at seat.old.me.0.layout.cells cell generation) ≡ nothing }

@@ -2,13 +2,14 @@
 ghost use Rattle.std.specs.Prelude.{◌≡◌, ℕ, ◌+◌, ◌<◌, true, false, ◌∷◌, Option, Some, None};
 ghost use Rattle.atomic_table.specs.Table.{rest};
 ghost use Rattle.claim.specs.declared.tag.Tag.TheVariants.{Empty};
+ghost use Rattle.claim.specs.declared.word.TheConstants.{GENERATIONS};
 ghost use Rattle.history.specs.declared.event.Event.TheVariants.{Submit, Reap};
 ghost use Rattle.history.specs.{Submitted, data_of, submits, before_in, hosts, placed_behind, Fits as FitsEntry};
 ghost use Rattle.steps.specs.declared.line.Line.TheVariants.{Did, Lent, Noted};
 ghost use Rattle.steps.specs.declared.slot.Submission.{Submission};
 ghost use Rattle.steps.specs.declared.slot.Thing.TheVariants.{Full};
 ghost use Rattle.steps.specs.declared.view.Role.TheVariants.{Submitter, Lending};
-ghost use Rattle.steps.specs.{events_of, lent, noted, ring_of, request_at, claim_at, note_at, facts_at, user_at, slot_at, word_of, IsSubmission, IsCountNoted, count_in, count_notes, facts_of, notes_of, words_in, Extends, ExtendsAfter, ExtendsNoted, ExtendsTwice, IsStep, AreSteps, IsTwoSteps, Vacant, Fits, IsSameSeat, IsDone, IsOutcome};
+ghost use Rattle.steps.specs.{events_of, lent, noted, ring_of, request_at, claim_at, note_at, facts_at, user_at, slot_at, word_of, IsSubmission, IsCountNoted, count_in, count_notes, facts_of, notes_of, words_in, Extends, ExtendsAfter, ExtendsNoted, ExtendsTwice, IsStep, AreSteps, IsTwoSteps, Vacant, Fits, IsSameSeat, IsDone, IsOutcomeNote};
 
 use crate::facts::{count_in, facts};
 use crate::layout::{COUNT, FACTS, USER_DATA, claim_word, note_word, slot};
@@ -27,7 +28,7 @@ fn fill(
     hosted: bool,
 ) -> u64
     requires fits { Fits words.now.table_id seat.old cell }
-    requires small { generation < 16777216 }
+    requires small { generation < GENERATIONS }
     requires submitter { (seat.old.me.0.role ≡ Submitter (ring_of seat.old.me.0.layout.cells cell)) × (0 < seat.old.me.0.parts) }
     requires free { Vacant seat.old.me.0.layout.cells seat.old.me.0.seen cell generation }
     requires home { lent seat.old.me.0.seen (request_at seat.old.me.0.layout.cells cell generation) ≡ false }
@@ -55,7 +56,7 @@ fn note(
     value: u64,
 )
     requires fits { Fits words.now.table_id seat.old cell }
-    requires small { generation < 16777216 }
+    requires small { generation < GENERATIONS }
     requires there { (0 < number) × (number < 3) }
     requires submitter { (seat.old.me.0.role ≡ Lending (request_at seat.old.me.0.layout.cells cell generation)) × (0 < seat.old.me.0.parts) }
     requires free { Vacant seat.old.me.0.layout.cells seat.old.me.0.seen cell generation }
@@ -70,7 +71,7 @@ fn note(
 #[inline(always)]
 fn submit_filled(words: &Words, seat: &mut TableSeat, cell: usize, generation: u32)
     requires fits { Fits words.now.table_id seat.old cell }
-    requires small { generation < 16777216 }
+    requires small { generation < GENERATIONS }
     requires submitter { (seat.old.me.0.role ≡ Lending (request_at seat.old.me.0.layout.cells cell generation)) × (0 < seat.old.me.0.parts) }
     requires free { Vacant seat.old.me.0.layout.cells seat.old.me.0.seen cell generation }
     requires next { (request_at seat.old.me.0.layout.cells cell generation).k ≡ submits (events_of seat.old.me.0.seen) (ring_of seat.old.me.0.layout.cells cell) }
@@ -88,7 +89,7 @@ fn submit_filled(words: &Words, seat: &mut TableSeat, cell: usize, generation: u
 #[inline(always)]
 fn submit_counted(words: &Words, seat: &mut TableSeat, cell: usize, generation: u32, count: u32)
     requires fits { Fits words.now.table_id seat.old cell }
-    requires small { generation < 16777216 }
+    requires small { generation < GENERATIONS }
     requires submitter { (seat.old.me.0.role ≡ Lending (request_at seat.old.me.0.layout.cells cell generation)) × (0 < seat.old.me.0.parts) }
     requires free { Vacant seat.old.me.0.layout.cells seat.old.me.0.seen cell generation }
     requires next { (request_at seat.old.me.0.layout.cells cell generation).k ≡ submits (events_of seat.old.me.0.seen) (ring_of seat.old.me.0.layout.cells cell) }
@@ -111,7 +112,7 @@ fn submit_noted(
     count: Option<u32>,
 )
     requires fits { Fits words.now.table_id seat.old cell }
-    requires small { generation < 16777216 }
+    requires small { generation < GENERATIONS }
     requires submitter { (seat.old.me.0.role ≡ Lending (request_at seat.old.me.0.layout.cells cell generation)) × (0 < seat.old.me.0.parts) }
     requires free { Vacant seat.old.me.0.layout.cells seat.old.me.0.seen cell generation }
     requires next { (request_at seat.old.me.0.layout.cells cell generation).k ≡ submits (events_of seat.old.me.0.seen) (ring_of seat.old.me.0.layout.cells cell) }
@@ -138,7 +139,7 @@ pub fn submit(
     hosted: bool,
 ) -> u64
     requires fits { Fits words.now.table_id seat.old cell }
-    requires small { generation < 16777216 }
+    requires small { generation < GENERATIONS }
     requires submitter { (seat.old.me.0.role ≡ Submitter (ring_of seat.old.me.0.layout.cells cell)) × (0 < seat.old.me.0.parts) }
     requires free { Vacant seat.old.me.0.layout.cells seat.old.me.0.seen cell generation }
     requires next { (request_at seat.old.me.0.layout.cells cell generation).k ≡ submits (events_of seat.old.me.0.seen) (ring_of seat.old.me.0.layout.cells cell) }
@@ -169,9 +170,9 @@ fn empty(
     outcome: u64,
 ) -> (u64, Vec<u8>)
     requires fits { Fits words.now.table_id seat.old cell }
-    requires small { generation < 16777216 }
+    requires small { generation < GENERATIONS }
     requires submitter { (seat.old.me.0.role ≡ Submitter (ring_of seat.old.me.0.layout.cells cell)) × (0 < seat.old.me.0.parts) }
-    requires done { IsOutcome seat.old.me.0.seen (request_at seat.old.me.0.layout.cells cell generation) cell outcome }
+    requires done { IsOutcomeNote seat.old.me.0.seen (request_at seat.old.me.0.layout.cells cell generation) cell outcome }
     requires home { lent seat.old.me.0.seen (request_at seat.old.me.0.layout.cells cell generation) ≡ false }
     ensures seat { IsSameSeat seat.old seat.new × (seat.new.me.1 ≡ (slot_at cell, None) ∷ seat.old.me.1) }
     ensures lends { Extends seat.old.me.0 (Lent (request_at seat.old.me.0.layout.cells cell generation) (facts_at cell) outcome) (Lending (request_at seat.old.me.0.layout.cells cell generation)) seat.new.me.0 }
@@ -188,7 +189,7 @@ fn empty(
 #[inline(always)]
 fn reap_emptied(words: &Words, seat: &mut TableSeat, cell: usize, generation: u32, done: u64)
     requires fits { Fits words.now.table_id seat.old cell }
-    requires small { generation + 1 < 16777216 }
+    requires small { generation + 1 < GENERATIONS }
     requires submitter { (seat.old.me.0.role ≡ Lending (request_at seat.old.me.0.layout.cells cell generation)) × (0 < seat.old.me.0.parts) }
     requires done { IsDone seat.old.me.0.seen (request_at seat.old.me.0.layout.cells cell generation) generation done }
     requires emptied { seat.old.me.1 ≡ (slot_at cell, None) ∷ rest seat.old.me.1 }
@@ -213,10 +214,10 @@ pub fn reap(
     outcome: u64,
 ) -> (u64, Vec<u8>)
     requires fits { Fits words.now.table_id seat.old cell }
-    requires small { generation + 1 < 16777216 }
+    requires small { generation + 1 < GENERATIONS }
     requires submitter { (seat.old.me.0.role ≡ Submitter (ring_of seat.old.me.0.layout.cells cell)) × (0 < seat.old.me.0.parts) }
     requires done { IsDone seat.old.me.0.seen (request_at seat.old.me.0.layout.cells cell generation) generation done }
-    requires outcome { IsOutcome seat.old.me.0.seen (request_at seat.old.me.0.layout.cells cell generation) cell outcome }
+    requires outcome { IsOutcomeNote seat.old.me.0.seen (request_at seat.old.me.0.layout.cells cell generation) cell outcome }
     requires home { lent seat.old.me.0.seen (request_at seat.old.me.0.layout.cells cell generation) ≡ false }
     ensures seat { IsSameSeat seat.old seat.new × (seat.new.me.1 ≡ seat.old.me.1) }
     ensures reaps { ExtendsTwice seat.old.me.0 (Lent (request_at seat.old.me.0.layout.cells cell generation) (facts_at cell) outcome) (Lending (request_at seat.old.me.0.layout.cells cell generation)) (Did (Reap (request_at seat.old.me.0.layout.cells cell generation))) (Submitter (ring_of seat.old.me.0.layout.cells cell)) seat.new.me.0 }

@@ -1,13 +1,15 @@
 //! The steps of the poller on the clock and on timers.
 ghost use Rattle.std.specs.Prelude.{◌≡◌, ◌≢◌, ◌⊎◌, ℕ, ◌+◌, ◌<◌, ◌≤◌, true, false, negsuc, Some};
+ghost use Rattle.limits.specs.declared.TheConstants.{TICK};
 ghost use Rattle.claim.specs.declared.tag.Tag.TheVariants.{Held, Running, Armed};
+ghost use Rattle.claim.specs.declared.word.TheConstants.{GENERATIONS};
 ghost use Rattle.entry.specs.Entry.{Entry, fails as fails_with};
 ghost use Rattle.history.specs.declared.event.Event.TheVariants.{Tick, Arm, Expire, Count, Fire, FireMiss, Settle};
 ghost use Rattle.history.specs.declared.req.Req.{Req};
 ghost use Rattle.history.specs.{IsPlaced, IsLinkTimeout, IsTarget, Open, is_timeout, IsReplied, armed, clock_of, fired, later_replies, phase, submits, count_of, ticks_of};
 ghost use Rattle.steps.specs.declared.line.Line.TheVariants.{Did};
 ghost use Rattle.steps.specs.declared.view.Role.TheVariants.{Poller};
-ghost use Rattle.steps.specs.{events_of, ring_of, request_at, claim_at, word_of, Looks, Extends, Shown, IsStep, Fits, IsSameSeat, FitsClock, IsIdleWord, next_of};
+ghost use Rattle.steps.specs.{events_of, ring_of, request_at, claim_at, word_of, Looks, Extends, Shown, IsStep, Fits, IsSameSeat, FitsClock, IsIdleWord, request_after};
 
 use crate::layout::{CLOCK_WORD, claim_word};
 use crate::table::{TableSeat, Words};
@@ -17,7 +19,7 @@ use crate::{claims, plays};
 pub fn tick(words: &Words, seat: &mut TableSeat, now: u32)
     requires fits { FitsClock words.now.table_id seat.old }
     requires poller { ((n : ℕ) × (seat.old.me.0.role ≡ Poller n)) × (0 < seat.old.me.0.parts) }
-    requires later { (clock_of (events_of seat.old.me.0.seen) ≤ now) × (now ≤ 2147483647) }
+    requires later { (clock_of (events_of seat.old.me.0.seen) ≤ now) × (now ≤ TICK) }
     ensures seat { IsSameSeat seat.old seat.new × (seat.new.me.1 ≡ seat.old.me.1) }
     ensures ticks { Extends seat.old.me.0 (Did (Tick now)) seat.old.me.0.role seat.new.me.0 }
     ensures step { (found : ℕ) × IsStep 0 found seat.old.me.0 seat.new.me.0 }
@@ -29,7 +31,7 @@ pub fn tick(words: &Words, seat: &mut TableSeat, now: u32)
 pub fn arm(words: &Words, seat: &mut TableSeat, cell: usize, generation: u32, deadline: u32) -> bool
     requires fits { Fits words.now.table_id seat.old cell }
     requires poller { ((n : ℕ) × (seat.old.me.0.role ≡ Poller n)) × (0 < seat.old.me.0.parts) }
-    requires small { generation < 16777216 }
+    requires small { generation < GENERATIONS }
     requires submitted { (request_at seat.old.me.0.layout.cells cell generation).k < submits (events_of seat.old.me.0.seen) (ring_of seat.old.me.0.layout.cells cell) }
     requires may { Open (events_of seat.old.me.0.seen) (request_at seat.old.me.0.layout.cells cell generation) }
     requires timer { (e : Entry) × (n : ℕ) × IsPlaced (events_of seat.old.me.0.seen) (request_at seat.old.me.0.layout.cells cell generation) e × (ticks_of e.op ≡ Some n) × (deadline ≡ clock_of (events_of seat.old.me.0.seen) + n) }
@@ -56,7 +58,7 @@ pub fn expire(
 ) -> bool
     requires fits { Fits words.now.table_id seat.old cell }
     requires poller { ((n : ℕ) × (seat.old.me.0.role ≡ Poller n)) × (0 < seat.old.me.0.parts) }
-    requires small { generation < 16777216 }
+    requires small { generation < GENERATIONS }
     requires submitted { (request_at seat.old.me.0.layout.cells cell generation).k < submits (events_of seat.old.me.0.seen) (ring_of seat.old.me.0.layout.cells cell) }
     requires due { deadline ≤ clock_of (events_of seat.old.me.0.seen) }
     requires timeout { (e : Entry) × IsPlaced (events_of seat.old.me.0.seen) (request_at seat.old.me.0.layout.cells cell generation) e × (is_timeout e.op ≡ true) × (fails ≡ fails_with e (negsuc 61)) }
@@ -82,7 +84,7 @@ pub fn count(
 ) -> bool
     requires fits { Fits words.now.table_id seat.old cell }
     requires poller { ((n : ℕ) × (seat.old.me.0.role ≡ Poller n)) × (0 < seat.old.me.0.parts) }
-    requires small { generation < 16777216 }
+    requires small { generation < GENERATIONS }
     requires submitted { (request_at seat.old.me.0.layout.cells cell generation).k < submits (events_of seat.old.me.0.seen) (ring_of seat.old.me.0.layout.cells cell) }
     requires counted { (e : Entry) × IsPlaced (events_of seat.old.me.0.seen) (request_at seat.old.me.0.layout.cells cell generation) e × (0 < count_of e.op) × (count_of e.op ≤ later_replies (events_of seat.old.me.0.seen) (request_at seat.old.me.0.layout.cells cell generation)) }
     ensures seat { IsSameSeat seat.old seat.new × (seat.new.me.1 ≡ seat.old.me.1) }
@@ -108,7 +110,7 @@ pub fn settle(
 ) -> bool
     requires fits { Fits words.now.table_id seat.old cell }
     requires poller { ((n : ℕ) × (seat.old.me.0.role ≡ Poller n)) × (0 < seat.old.me.0.parts) }
-    requires small { generation < 16777216 }
+    requires small { generation < GENERATIONS }
     requires submitted { (request_at seat.old.me.0.layout.cells cell generation).k < submits (events_of seat.old.me.0.seen) (ring_of seat.old.me.0.layout.cells cell) }
     requires link { IsLinkTimeout (events_of seat.old.me.0.seen) (request_at seat.old.me.0.layout.cells cell generation) }
     requires told { in_time ≡ fired (events_of seat.old.me.0.seen) (request_at seat.old.me.0.layout.cells cell generation) }
@@ -137,16 +139,16 @@ pub fn fire(
 ) -> u64
     requires fits { Fits words.now.table_id seat.old cell }
     requires poller { ((n : ℕ) × (seat.old.me.0.role ≡ Poller n)) × (0 < seat.old.me.0.parts) }
-    requires small { generation < 16777216 }
+    requires small { generation < GENERATIONS }
     requires submitted { (request_at seat.old.me.0.layout.cells cell generation).k < submits (events_of seat.old.me.0.seen) (ring_of seat.old.me.0.layout.cells cell) }
-    requires due { (d : ℕ) × (phase (events_of seat.old.me.0.seen) (next_of (request_at seat.old.me.0.layout.cells cell generation)) ≡ armed d) × (d ≤ clock_of (events_of seat.old.me.0.seen)) }
-    requires target { IsTarget (events_of seat.old.me.0.seen) (next_of (request_at seat.old.me.0.layout.cells cell generation)) (request_at seat.old.me.0.layout.cells cell generation) }
-    requires unfired { fired (events_of seat.old.me.0.seen) (next_of (request_at seat.old.me.0.layout.cells cell generation)) ≡ false }
+    requires due { (d : ℕ) × (phase (events_of seat.old.me.0.seen) (request_after (request_at seat.old.me.0.layout.cells cell generation)) ≡ armed d) × (d ≤ clock_of (events_of seat.old.me.0.seen)) }
+    requires target { IsTarget (events_of seat.old.me.0.seen) (request_after (request_at seat.old.me.0.layout.cells cell generation)) (request_at seat.old.me.0.layout.cells cell generation) }
+    requires unfired { fired (events_of seat.old.me.0.seen) (request_after (request_at seat.old.me.0.layout.cells cell generation)) ≡ false }
     requires found { IsIdleWord generation found }
     requires fails { (e : Entry) × IsPlaced (events_of seat.old.me.0.seen) (request_at seat.old.me.0.layout.cells cell generation) e × (fails ≡ fails_with e (negsuc 124)) }
     ensures seat { IsSameSeat seat.old seat.new × (seat.new.me.1 ≡ seat.old.me.1) }
-    ensures fires { result ≡ found → Extends seat.old.me.0 (Did (Fire (next_of (request_at seat.old.me.0.layout.cells cell generation)) (request_at seat.old.me.0.layout.cells cell generation))) seat.old.me.0.role seat.new.me.0 }
-    ensures misses { result ≡ word_of Running 0 generation 0 → Extends seat.old.me.0 (Did (FireMiss (next_of (request_at seat.old.me.0.layout.cells cell generation)) (request_at seat.old.me.0.layout.cells cell generation))) seat.old.me.0.role seat.new.me.0 }
+    ensures fires { result ≡ found → Extends seat.old.me.0 (Did (Fire (request_after (request_at seat.old.me.0.layout.cells cell generation)) (request_at seat.old.me.0.layout.cells cell generation))) seat.old.me.0.role seat.new.me.0 }
+    ensures misses { result ≡ word_of Running 0 generation 0 → Extends seat.old.me.0 (Did (FireMiss (request_after (request_at seat.old.me.0.layout.cells cell generation)) (request_at seat.old.me.0.layout.cells cell generation))) seat.old.me.0.role seat.new.me.0 }
     ensures looks { result ≢ found → result ≢ word_of Running 0 generation 0 → Looks seat.old.me.0 seat.new.me.0 × Shown seat.old.me.0.layout.cells seat.new.me.0.seen cell result }
     ensures step { IsStep (claim_at cell) result seat.old.me.0 seat.new.me.0 }
 {

@@ -9,6 +9,8 @@ mod completion_ring;
 #[cfg(test)]
 mod doorbell;
 #[cfg(test)]
+mod endings;
+#[cfg(test)]
 mod outboxes;
 #[cfg(test)]
 mod pair;

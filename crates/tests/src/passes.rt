@@ -65,16 +65,16 @@ pub(crate) fn bell_of(alloc: Global, rings: u16) -> Result<(Bell, Vec<Ringer>, S
 /// A new ready queue and its passes, one for the poller and one for the worker.
 pub(crate) fn queue_of(alloc: Global, places: u32) -> Result<(ReadyQueue, Vec<ReadyPass>), Fail>
     requires { 0 < places }
-    ensures { IfOk result (λ t. All (λ p. Ready.IsOf t.0 p) t.1.items) }
+    ensures { IfOk result (λ t. All (λ p. Ready.IsQueuePass t.0 p) t.1.items) }
 {
     Ok(ReadyQueue::new(alloc, places, 2)?)
 }
 
 /// The last pass of the queue that is left.
 pub(crate) fn last_pass(queue: &ReadyQueue, passes: &mut Vec<ReadyPass>) -> Option<ReadyPass>
-    requires { All (λ p. Ready.IsOf queue.now p) passes.old.items }
-    ensures rest { All (λ p. Ready.IsOf queue.now p) passes.new.items }
-    ensures pass { IfSome result (λ p. Ready.IsOf queue.now p) }
+    requires { All (λ p. Ready.IsQueuePass queue.now p) passes.old.items }
+    ensures rest { All (λ p. Ready.IsQueuePass queue.now p) passes.new.items }
+    ensures pass { IfSome result (λ p. Ready.IsQueuePass queue.now p) }
 {
     let _ = queue;
     passes.pop()

@@ -1,6 +1,6 @@
 //! A queue of four places: in one thread, and between two that put and two that take.
 ghost use Rattle.std.specs.Prelude.{All, IfOk};
-ghost use Rattle.ready.specs.Ready.{IsOf};
+ghost use Rattle.ready.specs.Ready.{IsQueuePass};
 
 use history::Req;
 use ready::span::MOST;
@@ -112,8 +112,8 @@ struct Hand {
 
 /// One try.
 fn turn<R: Wait>(rt: &R, queue: &ReadyQueue, hand: &mut Hand)
-    requires { IsOf queue.now hand.old.pass }
-    ensures { IsOf queue.now hand.new.pass }
+    requires { IsQueuePass queue.now hand.old.pass }
+    ensures { IsQueuePass queue.now hand.new.pass }
 {
     if let Some(ring) = hand.ring {
         let req = Req { ring, k: hand.put };
@@ -129,8 +129,8 @@ fn turn<R: Wait>(rt: &R, queue: &ReadyQueue, hand: &mut Hand)
 
 /// All tries of a hand.
 fn work<R: Wait>(rt: &R, queue: &ReadyQueue, mut hand: Hand) -> Hand
-    requires { IsOf queue.now hand.pass }
-    ensures { IsOf queue.now result.pass }
+    requires { IsQueuePass queue.now hand.pass }
+    ensures { IsQueuePass queue.now result.pass }
 {
     for _n in 0..TRIES {
         turn(rt, queue, &mut hand);
@@ -144,8 +144,8 @@ fn work_all<R: Threads + Wait + Sync>(
     queue: &ReadyQueue,
     hands: Vec<Hand>,
 ) -> Result<Vec<Hand>, AllocError>
-    requires { All (λ h. IsOf queue.now h.pass) hands.items }
-    ensures { IfOk result (λ v. All (λ h. IsOf queue.now h.pass) v.items) }
+    requires { All (λ h. IsQueuePass queue.now h.pass) hands.items }
+    ensures { IfOk result (λ v. All (λ h. IsQueuePass queue.now h.pass) v.items) }
 {
     thread::map_vec(rt, hands, &|hand| work(rt, queue, hand))
 }
@@ -156,8 +156,8 @@ fn hands_of(
     queue: &ReadyQueue,
     mut passes: Vec<ReadyPass>,
 ) -> Result<Vec<Hand>, AllocError>
-    requires { All (λ p. IsOf queue.now p) passes.items }
-    ensures { IfOk result (λ v. All (λ h. IsOf queue.now h.pass) v.items) }
+    requires { All (λ p. IsQueuePass queue.now p) passes.items }
+    ensures { IfOk result (λ v. All (λ h. IsQueuePass queue.now h.pass) v.items) }
 {
     let _ = queue;
     let mut hands = Vec::new(alloc);
@@ -196,8 +196,8 @@ fn count_all(
     went: &mut Vec<u64>,
     came: &mut Vec<u64>,
 ) -> Result<Vec<ReadyPass>, AllocError>
-    requires { All (λ h. IsOf queue.now h.pass) hands.items }
-    ensures { IfOk result (λ v. All (λ p. IsOf queue.now p) v.items) }
+    requires { All (λ h. IsQueuePass queue.now h.pass) hands.items }
+    ensures { IfOk result (λ v. All (λ p. IsQueuePass queue.now p) v.items) }
 {
     let _ = queue;
     let mut passes = Vec::new(alloc);

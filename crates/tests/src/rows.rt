@@ -14,7 +14,7 @@ const LINK: u8 = 4;
 const HARD: u8 = 8;
 
 fn entry_of(opcode: u8, fd: i32, addr: u64, len: u32, flags: u8) -> Sqe {
-    let columns = entry::Row {
+    let columns = entry::Fields {
         opcode,
         fd,
         off: 0,

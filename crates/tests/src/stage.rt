@@ -153,7 +153,7 @@ impl Model for Stage {
 
     ghost view = { λ s. s.board };
 
-    ghost invariant = { λ s. IsOf s.board s.desk.poller × IsSleeperOf s.bell s.desk.sleeper × (s.desk.rings ≡ s.bell.rings) × Ready.IsOf s.queue s.desk.ready × Ready.IsOf s.queue s.work.ready × IfSome s.worker (λ w. IsOf s.board w) × IsOf s.board s.zero.submitter × IsRingerOf s.bell s.zero.ringer × (s.zero.ringer.tail ≡ s.zero.tail) × IfSome s.one (λ c. IsOf s.board c.submitter × IsRingerOf s.bell c.ringer × (c.ringer.tail ≡ c.tail)) };
+    ghost invariant = { λ s. IsOf s.board s.desk.poller × IsSleeperOf s.bell s.desk.sleeper × (s.desk.rings ≡ s.bell.rings) × Ready.IsQueuePass s.queue s.desk.ready × Ready.IsQueuePass s.queue s.work.ready × IfSome s.worker (λ w. IsOf s.board w) × IsOf s.board s.zero.submitter × IsRingerOf s.bell s.zero.ringer × (s.zero.ringer.tail ≡ s.zero.tail) × IfSome s.one (λ c. IsOf s.board c.submitter × IsRingerOf s.bell c.ringer × (c.ringer.tail ≡ c.tail)) };
 }
 
 impl Stage {

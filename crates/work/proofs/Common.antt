@@ -45,7 +45,7 @@ pub use Rattle.steps.specs.declared.view.View.{View}
 pub use Rattle.work.specs.{Facts, IsOf, share_of, AreCellCounts, RowsFrom, cells_of, AreMarked, ArePast, HasRooms, Holding, IsBusySeat, IsGridOf, IsHoldingSeat, IsIdleSeat, IsJoiningSeat, IsLaidOnce, IsTask, IsUnderway, Joining, LiesAs, Pass, Running, RunsIt, Settled, Took, mark_of, notes_read, own_of, seen_of, with_asked, woken_of, AreAt, ArePassed, Cancels, DidSearch, DidTake, DidTry, FewSteps, FewerSteps, IsEarlier, IsMeant, MayAim, ReadNotes, StepsIn, WentBy, WentOn, WorkerSeat, is_kind, steps_at, target_in, wanted_in, AreFew, AreHits, DidCancel, DidReply, DidCancelAll, EndsBy, FoundOut, HasStepped, HasWoken, IsReason, IsRun, LaidAtBoth, LaidDown, MissedPipe, NoAnswer, StepsAt, StepsBy, Told, TookAlong, Unanswered, WakesAt, op_run, run_as, taken_in}
 pub use Rattle.work.specs.declared.cancel.Tried.TheVariants.{Missed, Passed}
 pub use Rattle.work.specs.declared.cancel.Wanted.{Wanted}
-pub use Rattle.work.specs.declared.grid.Row.{Row}
+pub use Rattle.work.specs.declared.grid.RingCells.{RingCells}
 pub use Rattle.work.specs.declared.lists.Lists.{Lists}
 pub use Rattle.work.specs.declared.marks.Marks.{Marks}
 pub use mathlib.Core.Logic.{dite}

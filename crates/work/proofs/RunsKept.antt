@@ -1,7 +1,7 @@
 -- What the single steps of a run come to: which events the pass went on by, how many steps it took, and whose pass it stays.
 use Rattle.std.proofs.Common.{vec_capacity}
 use Rattle.answers.specs.declared.named.NamedPipes.{NamedPipes}
-use Rattle.history.specs.{IsOf as IsOfKind, uses_at}
+use Rattle.history.specs.{IsPlacedAs, uses_at}
 use Rattle.steps.proofs.CancelOnce.{IsEarly, unhit as not_hit}
 use Rattle.steps.proofs.Submissions.{fits_is}
 use Rattle.work.specs.declared.run.Ran.{Ran}
@@ -16,7 +16,7 @@ run_op b (LinkTimeout ticks) e s = ⊎_elim
     (λ (w : hosts b ≡ false). ap (λ (z : Bool). cond (not z) (record e { op = Invalid }) (record e { op = LinkTimeout ticks })) w) (bool_cases (hosts b))
 run_op b op e s = refl
 
-pub entry_run : (v : View) (r : Req) (data' : List ℕ) (p : Submission) → IsOfKind (events_of v.seen) r is_timer false → IsSubmission v.seen r data' p → IsPlaced (events_of v.seen) r (run_as p.sqe)
+pub entry_run : (v : View) (r : Req) (data' : List ℕ) (p : Submission) → IsPlacedAs (events_of v.seen) r is_timer false → IsSubmission v.seen r data' p → IsPlaced (events_of v.seen) r (run_as p.sqe)
 entry_run v r d p o k =
     let b = before_in (events_of v.seen) r in let is : IsPlaced (events_of v.seen) r (placed_behind b p.sqe) = ap (placed_from b) k.1 in
     let same' : o.0 ≡ placed_behind b p.sqe = (let z = sym o.1 ∙ is in cc) in
@@ -149,7 +149,7 @@ begins_both a b c x y = (y.0 ++ x.0, y.1 ∙ (ap (λ (j : List Line). y.0 ++ j) 
 -- ---- who runs a request goes on to run it
 
 module _ (table : TableId) (v w : View) (x g : ℕ) (r : Req) (p : Submission) (pipes : ℕ) (k : RunsIt table v x g r p pipes) where
-  kept_by : w.layout ≡ v.layout → w.role ≡ Busy r → w.parts ≡ v.parts → IsSubmission w.seen r [] p → IsOfKind (events_of w.seen) r is_timer false → Orderly w.layout w.seen → Legal (setup_of w.layout) (events_of w.seen) → RunsIt table w x g r p pipes
+  kept_by : w.layout ≡ v.layout → w.role ≡ Busy r → w.parts ≡ v.parts → IsSubmission w.seen r [] p → IsPlacedAs (events_of w.seen) r is_timer false → Orderly w.layout w.seen → Legal (setup_of w.layout) (events_of w.seen) → RunsIt table w x g r p pipes
   kept_by same role parts submission kind orderly legal = record {
     req_is = ap (λ (L : Layout). request_at L.cells x g) same ∙ k.req_is;
     fits = (k.fits.0, subst (λ (L : Layout). IsCell L.cells x) (sym same) k.fits.1, k.fits.2, k.fits.3);
@@ -163,14 +163,14 @@ module _ (table : TableId) (v w : View) (x g : ℕ) (r : Req) (p : Submission) (
   }
 
   -- the kind that was placed stays
-  kind_on : (j : List Line) → Legal (setup_of v.layout) (events_of (j ++ v.seen)) → IsOfKind (events_of (j ++ v.seen)) r is_timer false
+  kind_on : (j : List Line) → Legal (setup_of v.layout) (events_of (j ++ v.seen)) → IsPlacedAs (events_of (j ++ v.seen)) r is_timer false
   kind_on j l = let S : Setup = setup_of v.layout in (k.kind.0, lasts S (λ h. IsPlaced h r k.kind.0) r (placed_lasts S r k.kind.0) j v.seen l (submitted_in S v.seen r _ k.legal k.submission.1) k.kind.1, k.kind.2)
 
   pub runs_on : (l : Line) → Extends v l (Busy r) w → RunsIt table w x g r p pipes
   runs_on l e = let S : Setup = setup_of v.layout in let all : w.seen ≡ (l ∷ e.saw.later) ++ v.seen = ap (λ (z : View). z.seen) e.is ∙ ap (λ (j : List Line). l ∷ j) e.saw.is in
       let same = layout_after v w l (Busy r) e in let seen = ap (λ (z : View). z.seen) e.is in
       kept_by same (role_after v w l (Busy r) e) (parts_after v w l (Busy r) e) (submission_after v w l (Busy r) e r [] p k.submission)
-      (subst (λ (j : List Line). IsOfKind (events_of j) r is_timer false) (sym all) (kind_on (l ∷ e.saw.later) (subst (λ (j : List Line). Legal S (events_of (l ∷ j))) e.saw.is e.legal)))
+      (subst (λ (j : List Line). IsPlacedAs (events_of j) r is_timer false) (sym all) (kind_on (l ∷ e.saw.later) (subst (λ (j : List Line). Legal S (events_of (l ∷ j))) e.saw.is e.legal)))
       (subst (λ (z : Layout × List Line). Orderly z.0 z.1) (λ i. (sym same i, sym seen i)) e.orderly) (subst (λ (z : Layout × List Line). Legal (setup_of z.0) (events_of z.1)) (λ i. (sym same i, sym seen i)) e.legal)
 
   pub runs_look : Looks v w → RunsIt table w x g r p pipes
@@ -178,7 +178,7 @@ module _ (table : TableId) (v w : View) (x g : ℕ) (r : Req) (p : Submission) (
       let legal : Legal S (events_of (e.saw.later ++ v.seen)) = subst (λ (j : List Line). Legal S (events_of j)) e.saw.is e.legal in
       kept_by same (ap (λ (z : View). z.role) e.is ∙ k.role) (ap (λ (z : View). z.parts) e.is)
       (k.submission.0, subst (λ (j : List Line). submission (events_of j) r ≡ Some (record { entry = p.sqe; bytes = k.submission.0; last = p.last })) (sym (seen ∙ e.saw.is)) (lasts S (λ h. submission h r ≡ Some (record { entry = p.sqe; bytes = k.submission.0; last = p.last })) r (submission_lasts S r _) e.saw.later v.seen legal (submitted_in S v.seen r _ k.legal k.submission.1) k.submission.1), k.submission.2)
-      (subst (λ (j : List Line). IsOfKind (events_of j) r is_timer false) (sym (seen ∙ e.saw.is)) (kind_on e.saw.later legal))
+      (subst (λ (j : List Line). IsPlacedAs (events_of j) r is_timer false) (sym (seen ∙ e.saw.is)) (kind_on e.saw.later legal))
       (subst (λ (z : Layout × List Line). Orderly z.0 z.1) (λ i. (sym same i, sym seen i)) e.orderly) (subst (λ (z : Layout × List Line). Legal (setup_of z.0) (events_of z.1)) (λ i. (sym same i, sym seen i)) e.legal)
 
   -- the entry that was placed, and its buffer
@@ -256,7 +256,7 @@ runs_begun table v w x g r p pipes e req_is fits pipes_are parts submission =
       role = role_after v w (Did (Begin r)) (Busy r) e;
       parts = subst (λ (n : ℕ). 0 < n) (sym (parts_after v w (Did (Begin r)) (Busy r) e)) parts;
       submission = submission;
-      kind = subst (λ (j : List Line). IsOfKind (events_of j) r is_timer false) seen may.2;
+      kind = subst (λ (j : List Line). IsPlacedAs (events_of j) r is_timer false) seen may.2;
       orderly = subst (λ (z : Layout × List Line). Orderly z.0 z.1) (λ i. (same i, seen i)) e.orderly;
       legal = subst (λ (z : Layout × List Line). Legal (setup_of z.0) (events_of z.1)) (λ i. (same i, seen i)) e.legal;
     }

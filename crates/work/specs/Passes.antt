@@ -2,6 +2,7 @@
 use Rattle.std.specs.Prelude.{◌≡◌, ◌≢◌, ℕ, suc, ◌+◌, ◌<◌, ◌≤◌, cond, true, false, List, [], ◌∷◌, ◌++◌, length, slice_index, vec_capacity, Bool, Option, Some, None}
 use Rattle.atomic_table.specs.Seated.{TableId}
 use Rattle.atomic_table.specs.declared.shared.Seat.{Seat}
+use Rattle.claim.specs.declared.word.TheConstants.{GENERATIONS}
 use Rattle.entry.specs.Entry.{Entry}
 use Rattle.entry.specs.declared.op.Op.{Op}
 use Rattle.entry.specs.declared.op.Op.TheVariants.{Nop}
@@ -21,7 +22,7 @@ use Rattle.steps.specs.declared.view.Role.TheVariants.{Idle, Busy}
 use Rattle.steps.specs.declared.view.Step.{Step}
 use Rattle.steps.specs.declared.view.View.{View}
 use Rattle.steps.specs.{Orderly, event_of, events_of, goes_out, holder, lays, lying, setup_of, IsCell, cells_in, request_at, total, claim_at, slot_at, word_of, IsSubmission, words_of, HasAlone, HasBoth, owns, IsStep, LiesIn}
-use Rattle.history.specs.Legal.{Legal, IsOf}
+use Rattle.history.specs.Legal.{Legal, IsPlacedAs}
 use Rattle.claim.specs.declared.tag.Tag.TheVariants.{Ready}
 use Rattle.work.specs.declared.lists.Lists.{Lists}
 use Rattle.work.specs.declared.marks.Marks.{Marks}
@@ -114,12 +115,12 @@ pub record Running : Type 0 where
 -- the view of a worker that runs the request r of this cell and generation, whose submission is p, on a board of so many pipes; r is no timer
 pub record RunsIt (table : TableId) (v : View) (x g : ℕ) (r : Req) (p : Submission) (pipes : ℕ) : Type 0 where
   pub req_is : request_at v.layout.cells x g ≡ r
-  pub fits : (x < 16384) × IsCell v.layout.cells x × (claim_at x + 7 < table.words) × (g < 16777216)
+  pub fits : (x < 16384) × IsCell v.layout.cells x × (claim_at x + 7 < table.words) × (g < GENERATIONS)
   pub pipes_are : (length v.layout.caps ≡ pipes) × (pipes ≤ 64)
   pub role : v.role ≡ Busy r
   pub parts : 0 < v.parts
   pub submission : IsSubmission v.seen r [] p
-  pub kind : IsOf (events_of v.seen) r is_timer false
+  pub kind : IsPlacedAs (events_of v.seen) r is_timer false
   pub orderly : Orderly v.layout v.seen
   pub legal : Legal (setup_of v.layout) (events_of v.seen)
 

@@ -2,6 +2,7 @@
 use Rattle.std.specs.Prelude.{◌≡◌, ◌⊎◌, ℕ, ◌+◌, ◌<◌, ◌≤◌, ◌==◌, Bool, true, false, not, cond, List, [], ◌∷◌, ◌++◌, length, Option, Some, None}
 use Rattle.atomic_table.specs.Seated.{TableId}
 use Rattle.atomic_table.specs.declared.shared.Seat.{Seat}
+use Rattle.claim.specs.declared.word.TheConstants.{GENERATIONS}
 use Rattle.entry.specs.declared.op.Op.{Op}
 use Rattle.entry.specs.declared.op.Op.TheVariants.{AsyncCancel, TimeoutRemove}
 use Rattle.entry.specs.Entry.{Entry}
@@ -55,7 +56,7 @@ target_in s t = request_at s.me.0.layout.cells t.cell t.generation
 -- the target is an earlier request of the ring of c
 pub record IsEarlier (table : TableId) (s : WorkerSeat) (c : Req) (t : Target) : Type 0 where
   pub fits : Fits table s t.cell
-  pub small : t.generation < 16777216
+  pub small : t.generation < GENERATIONS
   pub before : IsBefore (target_in s t) c
 
 -- the matches of c before this number have replied

@@ -1,5 +1,6 @@
 //! Where the search of a cancel begins.
 ghost use Rattle.std.specs.Prelude.{◌≡◌, ℕ, ◌+◌, ◌-◌, ◌<◌, false};
+ghost use Rattle.claim.specs.declared.word.TheConstants.{GENERATIONS};
 ghost use Rattle.history.specs.declared.req.Req.{Req as Request};
 ghost use Rattle.history.specs.History.{IsReplied, phase};
 ghost use Rattle.steps.specs.{IsCell, cells_in, request_at, events_of, IsSameSeat, Looks};
@@ -33,7 +34,7 @@ fn is_open(words: &Words, seat: &mut TableSeat, target: Target) -> bool
 fn first_open(words: &Words, seat: &mut TableSeat, grid: &Grid, req: Req, from: u64) -> u64
     requires cancels { (w : WantedOf) × Cancels words.now.table_id seat.old req w }
     requires grid { IsGridOf words.now.table_id grid.now seat.old.me.0 }
-    requires cell { (x : ℕ) × (g : ℕ) × (g < 16777216) × IsCell grid.now x × (request_at grid.now x g ≡ req) }
+    requires cell { (x : ℕ) × (g : ℕ) × (g < GENERATIONS) × IsCell grid.now x × (request_at grid.now x g ≡ req) }
     requires past { ArePast seat.old.me.0.seen req.ring from }
     requires near { (req.k < from + cells_in grid.now req.ring) × (req.k < from + 1024) }
     ensures seat { IsSameSeat seat.old seat.new × (seat.new.me.1 ≡ seat.old.me.1) }
@@ -60,7 +61,7 @@ pub(crate) fn advance(
 ) -> u64
     requires cancels { (w : WantedOf) × Cancels words.now.table_id seat.old req w }
     requires grid { IsGridOf words.now.table_id grid.now seat.old.me.0 }
-    requires cell { (x : ℕ) × (g : ℕ) × (g < 16777216) × IsCell grid.now x × (request_at grid.now x g ≡ req) }
+    requires cell { (x : ℕ) × (g : ℕ) × (g < GENERATIONS) × IsCell grid.now x × (request_at grid.now x g ≡ req) }
     requires marked { AreMarked marks.old seat.old.me.0.seen }
     ensures seat { IsSameSeat seat.old seat.new × (seat.new.me.1 ≡ seat.old.me.1) }
     ensures went { WentOn seat.old.me.0 seat.new.me.0 }

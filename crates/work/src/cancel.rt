@@ -1,5 +1,6 @@
 //! The search of a cancel among the earlier requests of its ring.
 ghost use Rattle.std.specs.Prelude.{◌≡◌, ◌≢◌, ◌⊎◌, ℕ, ◌<◌, ◌≤◌, ◌+◌, ◌*◌, ◌-◌, true, false, List, IfOk, IfErr, IfSome, IfNone};
+ghost use Rattle.claim.specs.declared.word.TheConstants.{GENERATIONS};
 ghost use Rattle.claim.specs.declared.tag.Tag.TheVariants.{Held, Ready, Running};
 ghost use Rattle.entry.specs.declared.op.Op.{Op as OpOf};
 ghost use Rattle.history.specs.declared.req.Req.{Req as Request};
@@ -170,9 +171,9 @@ pub(crate) fn oldest(grid: &Grid, req: Req) -> u64
 
 /// Where an earlier request of the ring lies.
 pub(crate) fn earlier(grid: &Grid, req: Req, k: u64) -> Target
-    requires cell { (x : ℕ) × (g : ℕ) × (g < 16777216) × IsCell grid.now x × (request_at grid.now x g ≡ req) }
+    requires cell { (x : ℕ) × (g : ℕ) × (g < GENERATIONS) × IsCell grid.now x × (request_at grid.now x g ≡ req) }
     requires before { k < req.k }
-    ensures cell { IsCell grid.now result.cell × (result.cell < 16384) × (result.generation < 16777216) }
+    ensures cell { IsCell grid.now result.cell × (result.cell < 16384) × (result.generation < GENERATIONS) }
     ensures at { request_at grid.now result.cell result.generation ≡ record { ring = req.ring; k = k } }
 {
     let Some(cell) = grid.locate(Req { ring: req.ring, k }) else {
@@ -188,7 +189,7 @@ pub(crate) fn earlier(grid: &Grid, req: Req, k: u64) -> Target
 pub(crate) fn search(task: &Task<'_>, seat: &mut TableSeat, first: u64, wanted: Wanted) -> Searched
     requires cancels { Cancels task.now.words.now.table_id seat.old task.now.req wanted × (wanted.all ≡ false) × (hit (events_of seat.old.me.0.seen) task.now.req ≡ nothing) }
     requires grid { IsGridOf task.now.words.now.table_id task.now.grid.now seat.old.me.0 }
-    requires cell { (x : ℕ) × (g : ℕ) × (g < 16777216) × IsCell task.now.grid.now x × (request_at task.now.grid.now x g ≡ task.now.req) }
+    requires cell { (x : ℕ) × (g : ℕ) × (g < GENERATIONS) × IsCell task.now.grid.now x × (request_at task.now.grid.now x g ≡ task.now.req) }
     requires first { IsFirst task.now.grid.now seat.old.me.0 task.now.req first }
     ensures seat { IsSameSeat seat.old seat.new × (seat.new.me.1 ≡ seat.old.me.1) }
     ensures searched { DidSearch seat.old.me.0 seat.new.me.0 task.now.req result }

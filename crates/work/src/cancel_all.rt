@@ -1,5 +1,6 @@
 //! The cancel_all of a cancel of all its matches over the earlier requests of its ring.
 ghost use Rattle.std.specs.Prelude.{◌≡◌, ℕ, ◌<◌, ◌≤◌, ◌*◌, ◌-◌, ◌++◌, [], ◌∷◌, true, List, length, vec_capacity};
+ghost use Rattle.claim.specs.declared.word.TheConstants.{GENERATIONS};
 ghost use Rattle.history.specs.History.{hit, nothing};
 ghost use Rattle.steps.specs.{IsCell, cells_in, request_at, events_of, IsSameSeat};
 ghost use Rattle.work.specs.{IsGridOf, IsSpare, Cancels, FewSteps, IsFirst, DidCancelAll};
@@ -31,7 +32,7 @@ pub(crate) fn cancel_all(
 )
     requires cancels { Cancels task.now.words.now.table_id seat.old task.now.req wanted × (wanted.all ≡ true) × (hit (events_of seat.old.me.0.seen) task.now.req ≡ nothing) }
     requires grid { IsGridOf task.now.words.now.table_id task.now.grid.now seat.old.me.0 }
-    requires cell { (x : ℕ) × (g : ℕ) × (g < 16777216) × IsCell task.now.grid.now x × (request_at task.now.grid.now x g ≡ task.now.req) }
+    requires cell { (x : ℕ) × (g : ℕ) × (g < GENERATIONS) × IsCell task.now.grid.now x × (request_at task.now.grid.now x g ≡ task.now.req) }
     requires first { IsFirst task.now.grid.now seat.old.me.0 task.now.req first }
     requires spare { IsSpare task.now.grid.now took.old.items (vec_capacity took.old) }
     ensures seat { IsSameSeat seat.old seat.new × (seat.new.me.1 ≡ seat.old.me.1) }

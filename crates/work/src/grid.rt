@@ -16,7 +16,7 @@ pub struct Cell {
 
 /// The cells of one ring: the number of its first one, and how many there are.
 #[derive(Clone, Copy)]
-pub struct Row {
+pub struct RingCells {
     first: usize,
     cells: u64,
 }
@@ -24,7 +24,7 @@ pub struct Row {
 /// The cells of all rings, one ring's after the other's. Contracts see how many cells each ring has.
 #[derive(Drop)]
 pub struct Grid {
-    rows: Vec<Row>,
+    rows: Vec<RingCells>,
     count: usize,
 }
 
@@ -67,7 +67,7 @@ impl Grid {
         let mut rows = Vec::new(alloc);
         let mut first = 0;
         for &cells in cells {
-            rows.push(Row { first, cells })?;
+            rows.push(RingCells { first, cells })?;
             first += cells as usize;
         }
         Ok(Grid { rows, count: first })

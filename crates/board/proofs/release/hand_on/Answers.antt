@@ -1,4 +1,4 @@
-use Rattle.history.specs.Legal.{IsOf}
+use Rattle.history.specs.Legal.{IsPlacedAs}
 use Rattle.board.proofs.Common.{IsReplied, MayBegin, Open, Req, events_of, is_timeout, kind_lasts, open_lasts, setup_of, submits, subst, sym, true, true≢false, ⊎_elim, ◌<◌, ◌∙◌, ◌≢◌}
 use Rattle.board.proofs.LastSteps.{no_timer, timeout_timer, timeout_clear, at_is, decides_freed, decides_missed, decides_timer}
 use Rattle.board.proofs.Watching.{watched_look, lasts_on, replied_on, paid_one}
@@ -12,7 +12,7 @@ returns-then-not-worked-clause-decides c =
     let b = c.args.board.now in let q = c.args.req in let s = c.args.seat.now in let u = c.is_held.new.seat in let r = c.requires in let f = c.is_held.ensures in
     let held = (f.held c.if-not-is_held.false).0 in let open' : Open (events_of u.me.0.seen) q = lasts_on b s u f.watched (λ h. Open h q) q (open_lasts (setup_of b.layout) q) r.here.born r.open in
     let kind = ⊎_elim
-    (λ k. lasts_on b s u f.watched (λ h. IsOf h q is_timeout true) q (kind_lasts (setup_of b.layout) q is_timeout true) r.here.born k)
+    (λ k. lasts_on b s u f.watched (λ h. IsPlacedAs h q is_timeout true) q (kind_lasts (setup_of b.layout) q is_timeout true) r.here.born k)
     (λ d. absurd (subst IsReplied held (replied_on b s u q f.watched d))) (r.timer c.if-not-worked.true) in
     decides_timer b s u q f.watched (held, open', timeout_clear (events_of u.me.0.seen) q kind open', timeout_timer (events_of u.me.0.seen) q kind)
 

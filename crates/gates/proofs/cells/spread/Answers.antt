@@ -1,4 +1,4 @@
-use Rattle.gates.proofs.Common.{LinkedAt, Some, ap, arith, bool_cases, eqb-true, false, length, length-set, map, next_of, set, slice_get, slot_of, subst, suc, sym, true, ℕ, ⊎_elim, ◌+◌, ◌<◌, ◌==◌, ◌∙◌, ◌≡◌, ◌≢◌}
+use Rattle.gates.proofs.Common.{LinkedAt, Some, ap, arith, bool_cases, eqb-true, false, length, length-set, map, behind_next, set, slice_get, slot_of, subst, suc, sym, true, ℕ, ⊎_elim, ◌+◌, ◌<◌, ◌==◌, ◌∙◌, ◌≡◌, ◌≢◌}
 use Rattle.gates.proofs.Lists.{get_there, get_set_other}
 use Rattle.gates.proofs.Links.{ne_of, with_behind, linked_more, linked_all, slots_kept, linked_end, behind_same}
 use Rattle.gates.proofs.cells.spread.Goals as goal
@@ -23,7 +23,7 @@ loop-j-preserved c =
     let cs = c.loop-j.cells.items in let j = c.loop-j.j in let lt : suc j < length cs = omega arith in
     let d = get_there cs (suc j) lt in
     let e : suc j ≡ j + 1 = omega arith in
-    let b = next_of (c.args.lost + j) (slot_of c.cell_at.result.now) c.cell_at.result.now.behind in
+    let b = behind_next (c.args.lost + j) (slot_of c.cell_at.result.now) c.cell_at.result.now.behind in
     let now : c.set_behind.new.cells.items ≡ set cs (suc j) (with_behind d.0 b) =
     c.set_behind.ensures.items d.0 (ap (slice_get cs) (sym e) ∙ d.1) ∙ ap (λ z. set cs z (with_behind d.0 c.next-behind.result)) (sym e) ∙ ap (λ z. set cs (suc j) (with_behind d.0 z)) c.next-behind.ensures in
     let n : length c.set_behind.new.cells.items ≡ length cs = ap length now ∙ length-set cs (suc j) (with_behind d.0 b) in

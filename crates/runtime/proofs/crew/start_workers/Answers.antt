@@ -1,4 +1,4 @@
-use Rattle.ready.specs.Ready.{IsOf as IsOfQueue}
+use Rattle.ready.specs.Ready.{IsQueuePass}
 use Rattle.runtime.specs.declared.promised.WorkThread.{WorkThread}
 use Rattle.runtime.proofs.Common.{All, All-pop, All-push, IsOf, List, Moves, Pass, Some, [], ap, arc_value, arith, length, length-append, rules, shares_of, subst, sum_by, sum_by_push, sym, ◌++◌, ◌∷◌, ◌≡◌}
 use Rattle.runtime.proofs.crew.start_workers.Goals as goal
@@ -11,7 +11,7 @@ start_beside-requires-clause-worker g c κs within =
 pub start_beside-requires-clause-ready : goal.start_beside-requires-clause-ready
 start_beside-requires-clause-ready g c κs within =
     let s = arc_value c.args.stage.now.shared in
-    (All-pop (λ (p : Moves). IsOfQueue s.queue p) c.loop-worker.passes.items c.pop-in-Some.new.self.items (Some c.in-Some-pop.ready) c.in-Some-pop.ensures.items c.loop-worker.invariant.passes).1
+    (All-pop (λ (p : Moves). IsQueuePass s.queue p) c.loop-worker.passes.items c.pop-in-Some.new.self.items (Some c.in-Some-pop.ready) c.in-Some-pop.ensures.items c.loop-worker.invariant.passes).1
 
 pub loop-worker-preserved : goal.loop-worker-preserved
 loop-worker-preserved g c =
@@ -29,7 +29,7 @@ loop-worker-preserved g c =
     let sum = ap (λ (z : List WorkThread). shares_of z) c.push_reserved.ensures.items in
     record {
       workers = (All-pop (λ (p : Pass). IsOf s.board p) c.loop-worker.workers.items c.pop.new.self.items (Some c.in-Some.worker) c.in-Some.ensures.items i.workers).0;
-      passes = (All-pop (λ (p : Moves). IsOfQueue s.queue p) c.loop-worker.passes.items c.pop-in-Some.new.self.items (Some c.in-Some-pop.ready) c.in-Some-pop.ensures.items i.passes).0;
+      passes = (All-pop (λ (p : Moves). IsQueuePass s.queue p) c.loop-worker.passes.items c.pop-in-Some.new.self.items (Some c.in-Some-pop.ready) c.in-Some-pop.ensures.items i.passes).0;
       pairs = omega (arith, i.pairs, fewer, one, fewer_passes, one_pass);
       listening = search rules;
       calling = search rules;

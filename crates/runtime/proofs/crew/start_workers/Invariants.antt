@@ -1,11 +1,11 @@
-use Rattle.ready.specs.Ready.{IsOf as IsOfQueue}
+use Rattle.ready.specs.Ready.{IsQueuePass}
 use Rattle.runtime.proofs.Common.{All, AreWorking, IsOf, arc_value, length, shares_of, sum_by, vec_capacity, ◌+◌, ◌≡◌, ◌≤◌}
 use Rattle.runtime.proofs.crew.start_workers.Given as goal
 
 abbrev pub invariant-loop-worker : goal.invariant-loop-worker
 invariant-loop-worker g l = record {
   workers : All (λ p. IsOf (arc_value l.stage.shared).board p) l.workers.items;
-  passes : All (λ p. IsOfQueue (arc_value l.stage.shared).queue p) l.passes.items;
+  passes : All (λ p. IsQueuePass (arc_value l.stage.shared).queue p) l.passes.items;
   pairs : length l.passes.items ≡ length l.workers.items;
   listening : length l.listeners.items ≡ length l.workers.items;
   calling : length l.callers.items ≡ length l.workers.items;

@@ -29,7 +29,7 @@ returns-in_default-clause-ticked g c = record {
 pub returns-in_default-tick-clause-ticked : goal.returns-in_default-tick-clause-ticked
 returns-in_default-tick-clause-ticked g c = record {
   events = [];
-  goes = subst (λ (z : Pass). GoesOn c.args.board.now c.args.hands.now.poller [] z) (sym c.in_default-tick.ensures.refused.0) (goes_on _ _ _ _ c.phase_of-phase.ensures.looks);
+  goes = subst (λ (z : Pass). GoesOn c.args.board.now c.args.state.now.poller [] z) (sym c.in_default-tick.ensures.refused.0) (goes_on _ _ _ _ c.phase_of-phase.ensures.looks);
   once = omega arith;
   silent = refl;
   alone = λ r. ap (λ (z : Pass). freed z.view.seen r) c.in_default-tick.ensures.refused.0 ∙ c.phase_of-phase.ensures.alone r;
@@ -50,14 +50,14 @@ returns-clause-ticked g c = record {
 
 pub returns-in_default-clause-follows : goal.returns-in_default-clause-follows
 returns-in_default-clause-follows g c f =
-    let role : IsPollers c.args.hands.now.poller = (_, c.clock-now.ensures.role) in
+    let role : IsPollers c.args.state.now.poller = (_, c.clock-now.ensures.role) in
     let time = c.clock-now.ensures.clock ∙ sym (clock_kept _ _ _ [] (goes_on _ _ _ _ c.phase_of-phase.ensures.looks) role refl) in
     let before = heard (g.C.Clock.follows c.args.clock.now) (g.met.C.Clock.stays c.args.clock.now) _ _ _ _ _ _ c.phase_of-phase.ensures.looks role c.ask.ensures c.phase_of-phase.ensures.asked f in
     c.in_default.ensures c.phase_of-phase.new.poller.view.seen before.0 time before.1
 
 pub returns-in_default-tick-clause-follows : goal.returns-in_default-tick-clause-follows
 returns-in_default-tick-clause-follows g c f =
-    let role : IsPollers c.args.hands.now.poller = (_, c.clock-now.ensures.role) in
+    let role : IsPollers c.args.state.now.poller = (_, c.clock-now.ensures.role) in
     let time = c.clock-now.ensures.clock ∙ sym (clock_kept _ _ _ [] (goes_on _ _ _ _ c.phase_of-phase.ensures.looks) role refl) in
     let before = heard (g.C.Clock.follows c.args.clock.now) (g.met.C.Clock.stays c.args.clock.now) _ _ _ _ _ _ c.phase_of-phase.ensures.looks role c.ask.ensures c.phase_of-phase.ensures.asked f in
     let refused = c.in_default-tick.ensures.refused in
@@ -65,7 +65,7 @@ returns-in_default-tick-clause-follows g c f =
 
 pub returns-clause-follows : goal.returns-clause-follows
 returns-clause-follows g c f =
-    let role : IsPollers c.args.hands.now.poller = (_, c.clock-now.ensures.role) in
+    let role : IsPollers c.args.state.now.poller = (_, c.clock-now.ensures.role) in
     let time = c.clock-now.ensures.clock ∙ sym (clock_kept _ _ _ [] (goes_on _ _ _ _ c.phase_of-phase.ensures.looks) role refl) in
     let before = heard (g.C.Clock.follows c.args.clock.now) (g.met.C.Clock.stays c.args.clock.now) _ _ _ _ _ _ c.phase_of-phase.ensures.looks role c.ask.ensures c.phase_of-phase.ensures.asked f in
     let still : IsPollers c.phase_of-phase.new.poller = (role.0, c.phase_of-phase.ensures.looks.role_is ∙ role.1) in

@@ -24,10 +24,10 @@ pub returns-in-NotHeld-clause-went_on : goal.returns-in-NotHeld-clause-went_on
 returns-in-NotHeld-clause-went_on c = λ o. rang_then _ _ _ _ _ o _ (rang_looked _ _ _ o c.in-NotHeld.ensures.goes c.arm.ensures.alone (refl, refl, refl) (λ m. m)) (c.look_again.ensures.went_on o)
 
 pub returns-in-NotHeld-clause-tried : goal.returns-in-NotHeld-clause-tried
-returns-in-NotHeld-clause-tried c = tried_later _ _ _ _ (goes_on _ _ _ _ c.in-NotHeld.ensures.goes) c.args.req c.look_again.new.hands.poller _ _ c.look_again.result c.look_again.ensures.tried
+returns-in-NotHeld-clause-tried c = tried_later _ _ _ _ (goes_on _ _ _ _ c.in-NotHeld.ensures.goes) c.args.req c.look_again.new.state.poller _ _ c.look_again.result c.look_again.ensures.tried
 
 pub returns-in-NotTimer-clause-went_on : goal.returns-in-NotTimer-clause-went_on
-returns-in-NotTimer-clause-went_on c = λ o. rang_looked _ _ _ o (subst (λ (es : List Event). Goes c.args.board.now c.args.hands.now.poller es c.arm.new.poller) (none_armed c.arm.result c.args.req c.in-NotTimer.is) c.arm.ensures.goes) c.arm.ensures.alone (refl, refl, refl) (λ m. m)
+returns-in-NotTimer-clause-went_on c = λ o. rang_looked _ _ _ o (subst (λ (es : List Event). Goes c.args.board.now c.args.state.now.poller es c.arm.new.poller) (none_armed c.arm.result c.args.req c.in-NotTimer.is) c.arm.ensures.goes) c.arm.ensures.alone (refl, refl, refl) (λ m. m)
 
 pub returns-in-NotTimer-clause-cared : goal.returns-in-NotTimer-clause-cared
 returns-in-NotTimer-clause-cared c =
@@ -36,7 +36,7 @@ returns-in-NotTimer-clause-cared c =
 
 pub returns-in-NotTimer-clause-tried : goal.returns-in-NotTimer-clause-tried
 returns-in-NotTimer-clause-tried c =
-    let p = c.args.hands.now.poller in let q = c.arm.new.poller in let r = c.args.req in
+    let p = c.args.state.now.poller in let q = c.arm.new.poller in let r = c.args.req in
     let x = goes_on _ _ _ _ c.arm.ensures.goes in
     inr (
       c.put.ensures,

@@ -41,7 +41,7 @@ returns-in-Unborn-clause-cared c =
 
 pub returns-in-Unborn-clause-tried : goal.returns-in-Unborn-clause-tried
 returns-in-Unborn-clause-tried c =
-    let p = c.args.hands.now.poller in let q = c.look.new.pass in let r = c.args.req in
+    let p = c.args.state.now.poller in let q = c.look.new.pass in let r = c.args.req in
     let x = goes_on _ _ _ _ c.look.ensures.looks in
     let at = c.look.ensures.finds.0 in
     inr (

@@ -9,11 +9,11 @@ loop-n-init g c = rw c.limit_for.ensures (record {
   may = c.requires.may;
   rings = refl;
   places = refl;
-  passed = record { todo = c.args.lists.now.waiting.items; done = []; items_are = sym (Rattle.std.proofs.lemmas.List.append-nil c.args.lists.now.waiting.items); left = let e = c.len-n-end.ensures in omega (arith, e); true_of = inl (none_held c.args.hands.now.poller c.args.hands.now.poller) };
+  passed = record { todo = c.args.lists.now.waiting.items; done = []; items_are = sym (Rattle.std.proofs.lemmas.List.append-nil c.args.lists.now.waiting.items); left = let e = c.len-n-end.ensures in omega (arith, e); true_of = inl (none_held c.args.state.now.poller c.args.state.now.poller) };
 })
 
 pub release_next-outcome-requires-clause-may : goal.release_next-outcome-requires-clause-may
-release_next-outcome-requires-clause-may g c = let i = c.loop-n.invariant.may in record { own = i.own; room = i.room; cared = subst (λ (ws : List Req). LooksAfter (record (cares_of c.loop-n.lists) { waiting = ws }) c.loop-n.hands.poller.view.seen) c.in-Some.ensures.taken i.cared }
+release_next-outcome-requires-clause-may g c = let i = c.loop-n.invariant.may in record { own = i.own; room = i.room; cared = subst (λ (ws : List Req). LooksAfter (record (cares_of c.loop-n.lists) { waiting = ws }) c.loop-n.state.poller.view.seen) c.in-Some.ensures.taken i.cared }
 
 pub loop-n-preserved : goal.loop-n-preserved
 loop-n-preserved g c =
@@ -22,7 +22,7 @@ loop-n-preserved g c =
       may = may_release _ _ _ _ _ _ _ _ i.may e.did e.cared;
       rings = e.rings ∙ i.rings;
       places = same_places c.in-Some.req _ _ e.waits ∙ (c.take.ensures.places ∙ i.places);
-      passed = next_held c.args.hands.now.poller c.loop-n.hands.poller c.release_next-outcome.new.hands.poller c.loop-n.hands c.release_next-outcome.new.hands c.loop-n.outcome c.release_next-outcome.result c.loop-n.lists.waiting.items c.take.new.self c.release_next-outcome.new.lists.waiting c.in-Some.req c.loop-n._n c.len-n-end.result i.passed c.in-Some.ensures.taken c.loop-n-test.true (i.did.goes.later, i.did.goes.seen_is) (e.did.goes.later, e.did.goes.seen_is) e.outcome e.stuck e.waits e.tried;
+      passed = next_held c.args.state.now.poller c.loop-n.state.poller c.release_next-outcome.new.state.poller c.loop-n.state c.release_next-outcome.new.state c.loop-n.outcome c.release_next-outcome.result c.loop-n.lists.waiting.items c.take.new.self c.release_next-outcome.new.lists.waiting c.in-Some.req c.loop-n._n c.len-n-end.result i.passed c.in-Some.ensures.taken c.loop-n-test.true (i.did.goes.later, i.did.goes.seen_is) (e.did.goes.later, e.did.goes.seen_is) e.outcome e.stuck e.waits e.tried;
     }
 
 pub unreachable-requires : goal.unreachable-requires

@@ -27,8 +27,8 @@ loop-ring-preserved g c =
       may = may_release _ _ _ _ _ _ _ _ c.requires.may all e.cared;
       rings = e.rings ∙ i.rings;
       places = e.places ∙ i.places;
-      waited = have_waited_then c.args.hands.now.poller c.loop-ring.hands.poller c.take_ring.new.hands.poller c.args.lists.now.waiting.items c.loop-ring.lists.waiting.items c.take_ring.new.lists.waiting.items (i.did.goes.later, i.did.goes.seen_is) (e.did.goes.later, e.did.goes.seen_is) i.waited c.in_ok-take_ring.ensures.waited;
-      taken = taken_next c.args.sleeper.now.tails _ _ c.loop-ring.ring c.tail-tail.result c.loop-ring.hands c.take_ring.new.hands c.loop-ring.lists.waiting c.take_ring.new.lists.waiting c.tail-tail.ensures e.others e.stopped i.taken c.in_ok-take_ring.ensures.taken;
+      waited = have_waited_then c.args.state.now.poller c.loop-ring.state.poller c.take_ring.new.state.poller c.args.lists.now.waiting.items c.loop-ring.lists.waiting.items c.take_ring.new.lists.waiting.items (i.did.goes.later, i.did.goes.seen_is) (e.did.goes.later, e.did.goes.seen_is) i.waited c.in_ok-take_ring.ensures.waited;
+      taken = taken_next c.args.sleeper.now.tails _ _ c.loop-ring.ring c.tail-tail.result c.loop-ring.state c.take_ring.new.state c.loop-ring.lists.waiting c.take_ring.new.lists.waiting c.tail-tail.ensures e.others e.stopped i.taken c.in_ok-take_ring.ensures.taken;
       stuck = λ s. e.stuck (i.stuck s);
     }
 

@@ -39,9 +39,9 @@ loop-k-preserved g c =
       rings = ap (λ z. Rattle.std.proofs.Common.length z.items) e.rings ∙ (t.rings ∙ i.rings);
       there = i.there;
       places = same_places c.take_up-req.result _ _ e.waits ∙ (ap (λ (s : Places). s.places) t.waiting ∙ i.places);
-      waited = waited_more c.args.hands.now.poller c.loop-k.hands.poller c.take_up-req.new.hands.poller c.release.new.hands.poller c.args.lists.now.waiting.items c.loop-k.lists.waiting.items c.take_up-req.new.lists.waiting c.release.new.lists.waiting c.take_up-req.result (i.did.goes.later, i.did.goes.seen_is) ((t.went_on no_answers).goes.later, (t.went_on no_answers).goes.seen_is) (e.did.goes.later, e.did.goes.seen_is) i.waited (ap (λ (s : Places). s.items) t.waiting) c.in_ok-release.ensures.tried;
+      waited = waited_more c.args.state.now.poller c.loop-k.state.poller c.take_up-req.new.state.poller c.release.new.state.poller c.args.lists.now.waiting.items c.loop-k.lists.waiting.items c.take_up-req.new.lists.waiting c.release.new.lists.waiting c.take_up-req.result (i.did.goes.later, i.did.goes.seen_is) ((t.went_on no_answers).goes.later, (t.went_on no_answers).goes.seen_is) (e.did.goes.later, e.did.goes.seen_is) i.waited (ap (λ (s : Places). s.items) t.waiting) c.in_ok-release.ensures.tried;
       taken = ap (λ z. Rattle.runtime.specs.Desks.taken_in z.items c.args.ring) e.rings ∙ t.taken;
       others = λ k n. ap (λ z. Rattle.runtime.specs.Desks.taken_in z.items k) e.rings ∙ (t.others k n ∙ i.others k n);
-      stuck = λ s. absurd (free_unstuck c.loop-k.hands kept some (i.stuck s));
-      stopped = λ s. absurd (free_goes_on c.loop-k.hands c.loop-k.lists.waiting kept some (c.is_full.ensures.open c.if-is_full.false) (i.stopped s));
+      stuck = λ s. absurd (free_unstuck c.loop-k.state kept some (i.stuck s));
+      stopped = λ s. absurd (free_goes_on c.loop-k.state c.loop-k.lists.waiting kept some (c.is_full.ensures.open c.if-is_full.false) (i.stopped s));
     }

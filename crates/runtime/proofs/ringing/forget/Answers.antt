@@ -14,4 +14,4 @@ returns-then-is_armed-clause-cared c = after_on _ _ _ _ (c.is_armed.ensures.went
 pub returns-clause-cared : goal.returns-clause-cared
 returns-clause-cared c =
     let later = after_on _ _ _ _ (c.is_armed.ensures.went_on no_answers).goes (cares_of c.args.lists.now) c.requires.cared in
-    subst (λ (f : Req → Option ℕ). LooksAfter (record (cares_of c.args.lists.now) { deadline = f }) c.is_armed.new.hands.poller.view.seen) (sym c.drop_timer.ensures.dropped) (drops_timer (cares_of c.args.lists.now) c.args.req _ (c.is_armed.ensures.unarmed c.if-is_armed.false) later)
+    subst (λ (f : Req → Option ℕ). LooksAfter (record (cares_of c.args.lists.now) { deadline = f }) c.is_armed.new.state.poller.view.seen) (sym c.drop_timer.ensures.dropped) (drops_timer (cares_of c.args.lists.now) c.args.req _ (c.is_armed.ensures.unarmed c.if-is_armed.false) later)

@@ -18,7 +18,7 @@ loop-req-preserved c =
     record {
       went_on = λ o. rang_moved _ _ _ o _ (rang_then _ _ _ _ _ o _ (i.went_on o) (e.went_on o));
       at = at_on _ _ _ _ _ i.at (e.went_on no_answers);
-      cared = subst (λ (f : Req → Option ℕ). LooksAfter (record (cares_of c.loop-req.lists) { deadline = f }) c.is_armed.new.hands.poller.view.seen) (sym c.drop_timer.ensures.dropped) (drops_timer (cares_of c.loop-req.lists) c.in-Some.req _ (e.unarmed c.if-is_armed.false) later);
+      cared = subst (λ (f : Req → Option ℕ). LooksAfter (record (cares_of c.loop-req.lists) { deadline = f }) c.is_armed.new.state.poller.view.seen) (sym c.drop_timer.ensures.dropped) (drops_timer (cares_of c.loop-req.lists) c.in-Some.req _ (e.unarmed c.if-is_armed.false) later);
       same = i.same;
       fewer = λ r d is. i.fewer r d (fewer_dropped (deadline_at c.loop-req.lists.timers) c.in-Some.req r d (ap (λ (f : Req → Option ℕ). f r) (sym c.drop_timer.ensures.dropped) ∙ is));
     }

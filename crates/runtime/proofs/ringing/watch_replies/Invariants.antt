@@ -4,8 +4,8 @@ use Rattle.runtime.proofs.ringing.watch_replies.Given as goal
 
 abbrev pub invariant-loop-n : goal.invariant-loop-n
 invariant-loop-n l = record {
-  on : RangOn l.board l.fn.hands l.fn.lists l.fn.outbox l.hands l.lists l.outbox;
-  may : MayRing l.board l.hands (cares_of l.lists) l.outbox;
+  on : RangOn l.board l.fn.state l.fn.lists l.fn.outbox l.state l.lists l.outbox;
+  may : MayRing l.board l.state (cares_of l.lists) l.outbox;
   fewer : HasFewerTimers l.fn.lists l.lists;
-  passed : Passed l.lists.watchers.items l._n l._n-end (ArePending l.fn.hands.poller l.hands.poller);
+  passed : Passed l.lists.watchers.items l._n l._n-end (ArePending l.fn.state.poller l.state.poller);
 }

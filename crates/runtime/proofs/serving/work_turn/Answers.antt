@@ -1,6 +1,6 @@
 use Rattle.std.proofs.lemmas.List.{length-append}
 use Rattle.runtime.specs.WorkTurns.{Desk}
-use Rattle.runtime.proofs.Common.{Bool, Facts, IsOf, IsWorkTurn, List, Pass, Req, Shifts, Waiting, [], ap, append-nil, arith, cond, inl, inr, length, refl, rules, subst, sym, ◌++◌, ◌+◌, ◌∙◌, ◌∷◌, ◌≡◌}
+use Rattle.runtime.proofs.Common.{Bool, Facts, IsOf, IsWorkTurn, List, Pass, Places, Req, Shifts, [], ap, append-nil, arith, cond, inl, inr, length, refl, rules, subst, sym, ◌++◌, ◌+◌, ◌∙◌, ◌∷◌, ◌≡◌}
 use Rattle.runtime.proofs.ShiftLaws.{back_same, shifts_again, shifts_put, shifts_tried}
 use Rattle.runtime.proofs.serving.work_turn.Goals as goal
 use Rattle.runtime.proofs.serving.work_turn.Goals.{then-left-2, else-left-2}
@@ -15,14 +15,14 @@ keep-requires g c =
     let put = c.put_kept-2.ensures.few in record { room = omega (arith, fit, given.0, given.1, woken, places, put.0, put.1, tried.5) }
 
 -- a turn that tried no request
-untried : (b : Facts) (old new : Desk) (p : Pass) (before : Waiting) → IsOf b p → Shifts old [] [] new → IsWorkTurn b old new p p before before
+untried : (b : Facts) (old new : Desk) (p : Pass) (before : Places) → IsOf b p → Shifts old [] [] new → IsWorkTurn b old new p p before before
 untried b old new p before own numbers = record {
   of = own;
   answered = [];
   gone = [];
   woken = [];
   serves = inl (refl, refl, refl, refl);
-  outbox = ap (λ (l : List Req). record before { answered = l }) (sym (append-nil before.answered));
+  outbox = ap (λ (l : List Req). record before { items = l }) (sym (append-nil before.items));
   numbers = numbers;
 }
 

@@ -1,4 +1,4 @@
-use Rattle.ready.specs.{IsOf as IsOfQueue, IsRoom}
+use Rattle.ready.specs.{IsQueuePass, IsRoom}
 use Rattle.runtime.proofs.Common.{All, AreAll, AreOf, Crew, List, Moves, Pass, [], all_passes, ap, arc_value, arith, length, length-map, map, ready_of, subst, sym, worker_of, ℕ, ◌++◌, ◌+◌, ◌∙◌, ◌∷◌, ◌≡◌}
 use Rattle.runtime.proofs.CrewLaws.{passes_all, passes_own, workers_own}
 use Rattle.runtime.proofs.started.Stopped.parts.Goals as goal
@@ -20,10 +20,10 @@ returns-clause-passes g c =
     let d = c.self.inside.side.desk in
     let ws = c.self.inside.workers.items in
     let are : c.push_reserved.new.self.items ≡ all_passes d ws = c.push_reserved.ensures.items ∙ (ap (λ (ps : List Moves). ps ++ c.parts-poller.result.2 ∷ []) c.passes_of-workers.ensures.passes ∙ ap (λ (p : Moves). map ready_of ws ++ p ∷ []) c.parts-poller.ensures.2) in
-    let own = subst (λ (ps : List Moves). All (λ p. IsOfQueue s.queue p) ps) (sym are) (passes_own s d ws i.side_is.desk.ready i.workers_are) in
+    let own = subst (λ (ps : List Moves). All (λ p. IsQueuePass s.queue p) ps) (sym are) (passes_own s d ws i.side_is.desk.ready i.workers_are) in
     let all = subst (λ (ps : List Moves). AreAll ps) (sym are) (passes_all d ws i.shares) in (
       are ∙ ap (λ (k : Crew). all_passes k.desk k.workers) c.self.view_is,
-      subst (λ (k : Crew). All (λ p. IsOfQueue k.shared.queue p) c.push_reserved.new.self.items) c.self.view_is own,
+      subst (λ (k : Crew). All (λ p. IsQueuePass k.shared.queue p) c.push_reserved.new.self.items) c.self.view_is own,
       all,
     )
 

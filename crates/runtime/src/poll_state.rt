@@ -1,7 +1,7 @@
 //! The poller's passes in a turn.
 ghost use Rattle.std.specs.Prelude.{◌≡◌, ◌≢◌, ◌<◌, ◌+◌, ◌++◌, ◌∷◌, [], true, false};
-ghost use Rattle.outbox.specs.Outbox.{with_answered};
-ghost use Rattle.ready.specs.Ready.{IsOf as IsOfQueue};
+ghost use Rattle.outbox.specs.Outbox.{with_request};
+ghost use Rattle.ready.specs.Ready.{IsQueuePass};
 ghost use Rattle.runtime.specs.{HasRoom, IsStuck, HandedOver};
 
 use crate::backlog::Backlog;
@@ -16,7 +16,7 @@ use std::sync::Wait;
 /// The poller, its pass of the ready queue, the numbers that are to go there, how many workers take them, for how many answers the
 /// outbox still has room, and whether the turn did something.
 #[derive(Drop)]
-pub(crate) struct Hands {
+pub(crate) struct PollState {
     pub poller: Poller,
     pub ready: ReadyPass,
     pub kept: Backlog,
@@ -25,7 +25,7 @@ pub(crate) struct Hands {
     pub moved: bool,
 }
 
-impl Hands {
+impl PollState {
     /// Whether its numbers found their places, and it may answer one request more.
     pub fn is_free(&self) -> bool
         ensures kept { result ≡ true → self.now.kept.is_full ≡ false }
@@ -39,7 +39,7 @@ impl Hands {
     pub fn answer(&mut self, outbox: &mut Outbox, req: Req)
         requires some { 0 < self.old.room }
         requires room { HasRoom self.old outbox.old }
-        ensures answered { outbox.new ≡ with_answered req outbox.old }
+        ensures answered { outbox.new ≡ with_request req outbox.old }
         ensures moved { self.new.moved ≡ true }
         ensures room { self.new.room + 1 ≡ self.old.room }
         ensures same { (self.new.poller ≡ self.old.poller) × (self.new.ready ≡ self.old.ready) × (self.new.kept ≡ self.old.kept) }
@@ -65,7 +65,7 @@ impl Hands {
 
     /// Hands a request over to the ready queue: with the next ones, up to the limit, or at the end of the turn at the latest.
     pub fn hand_over<R: Wait>(&mut self, route: Route<'_, R>, req: Req)
-        requires own { IsOfQueue route.queue.now self.old.ready }
+        requires own { IsQueuePass route.queue.now self.old.ready }
         requires free { self.old.kept.is_full ≡ false }
         ensures handed { HandedOver self.old.ready (self.old.kept.numbers ++ req ∷ []) self.new.ready self.new.kept.numbers }
         ensures same { (self.new.poller ≡ self.old.poller) × (self.new.room ≡ self.old.room) }
@@ -77,7 +77,7 @@ impl Hands {
 
     /// Puts the numbers that are kept into the ready queue, where it has places.
     pub fn retry<R: Wait>(&mut self, rt: &R, queue: &ReadyQueue)
-        requires own { IsOfQueue queue.now self.old.ready }
+        requires own { IsQueuePass queue.now self.old.ready }
         ensures handed { HandedOver self.old.ready self.old.kept.numbers self.new.ready self.new.kept.numbers }
         ensures same { (self.new.poller ≡ self.old.poller) × (self.new.room ≡ self.old.room) }
         ensures quiet { self.new.moved ≡ false → (self.old.moved ≡ false) × (self.old.kept.numbers ≡ []) }
@@ -90,7 +90,7 @@ impl Hands {
 
     /// The same at the end of a turn: numbers that found no place in it wait for the next turn.
     pub fn retry_rest<R: Wait>(&mut self, rt: &R, queue: &ReadyQueue)
-        requires own { IsOfQueue queue.now self.old.ready }
+        requires own { IsQueuePass queue.now self.old.ready }
         ensures handed { HandedOver self.old.ready self.old.kept.numbers self.new.ready self.new.kept.numbers }
         ensures same { (self.new.poller ≡ self.old.poller) × (self.new.room ≡ self.old.room) }
         ensures quiet { self.new.moved ≡ false → (self.old.moved ≡ false) × (self.old.kept.numbers ≡ []) }
