@@ -65,8 +65,8 @@ module _ (caps : List ℕ) (f : ℕ → Flow) (s t : ℕ) (c d : Conduit) (s_the
       ∙ (λ i. bare (splice_reply ((level_said (slice_index caps s) c (f s) source) i) ((level_said (slice_index caps t) d (f t) target) i) len))
 
   -- where an end is no open one of its side
-  shut_said : (x z : End) → is_at x s ≡ true → is_at z t ≡ true → (gives x c && takes z d) ≡ false → splice_of caps f x z len ≡ bad_end
-  shut_said x z a b n = ends_said x z a b ∙ ap (λ (i : Bool). cond i between bad_end) n
+  closed_said : (x z : End) → is_at x s ≡ true → is_at z t ≡ true → (gives x c && takes z d) ≡ false → splice_of caps f x z len ≡ bad_end
+  closed_said x z a b n = ends_said x z a b ∙ ap (λ (i : Bool). cond i between bad_end) n
 
 -- ---- what the reply makes of the pipes
 
@@ -181,4 +181,4 @@ module _ (caps : List ℕ) (h : List Event) (r : Req) (p : ℕ) (fd_in fd_out : 
     at_both = one_of_both (end_of fd_in) (end_of fd_out) p one u.used
 
     pub alone_refused : (gives (end_of fd_in) c && takes (end_of fd_out) c) ≡ false → Does caps h r alone p (Some (negsuc 8)) c c bytes bytes
-    alone_refused n = failed 8 (shut_said caps (flow h) p p c c u.there u.there source source len (end_of fd_in) (end_of fd_out) at_both.0 at_both.1 n)
+    alone_refused n = failed 8 (closed_said caps (flow h) p p c c u.there u.there source source len (end_of fd_in) (end_of fd_out) at_both.0 at_both.1 n)

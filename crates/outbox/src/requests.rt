@@ -1,5 +1,5 @@
 //! A queue of requests with so many places, whose room is made once.
-ghost use Rattle.std.specs.Prelude.{◌≡◌, ◌+◌, ◌<◌, ◌≤◌, ◌==◌, ◌∷◌, ◌++◌, [], length, false, IfOk, IfSome, MatchOption, slice_get};
+ghost use Rattle.std.specs.Prelude.{◌≡◌, ◌+◌, ◌<◌, ◌≤◌, ◌==◌, ◌∷◌, ◌++◌, [], length, false, IfOk, OnErr, IfSome, MatchOption, slice_get};
 ghost use Rattle.outbox.specs.Outbox.{no_requests, with_request};
 
 use crate::error::Memory;
@@ -45,10 +45,12 @@ impl RequestQueue {
         Ok(RequestQueue { places, items })
     }
 
-    /// Makes places for so many requests more, where there are too few.
+    /// Makes places for so many requests more, where there are too few. Where memory is refused, nothing changes.
     pub fn make_places(&mut self, more: usize) -> Result<(), AllocError>
         ensures same { self.new.items ≡ self.old.items }
         ensures places { IfOk result (λ _. length self.new.items + more ≤ self.new.places) }
+        ensures kept { self.old.places ≤ self.new.places }
+        ensures refused { OnErr result (self.new ≡ self.old) }
     {
         self.items.reserve(more)?;
         self.places = self.places.max(self.items.len() + more);

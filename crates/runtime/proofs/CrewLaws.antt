@@ -1,6 +1,6 @@
 -- The passes of the workers that came back, as lists.
 use Rattle.ready.specs.{IsQueuePass, all_shares}
-use Rattle.runtime.proofs.Common.{All, All-push, AreAll, AreOf, Desk, IsWorkSide, List, Moves, Shared, WorkSide, [], all_passes, ap, arith, length, length-append, length-map, map, ready_of, refl, shares_in, suc, sum_by, sum_by-cons, sum_by_push, sym, worker_of, zero, ℕ, ◌+◌, ◌∙◌, ◌∷◌, ◌≡◌}
+use Rattle.runtime.proofs.Common.{All, All-push, AreAll, AreOf, Desk, IsWorkSide, List, Moves, Shared, WorkSide, [], all_passes, ap, arith, map, ready_of, refl, shares_in, suc, sum_by, sum_by-cons, sum_by_push, sym, worker_of, zero, ℕ, ◌+◌, ◌∙◌, ◌∷◌, ◌≡◌}
 
 pub workers_own : (s : Shared) (ws : List WorkSide) → All (λ w. IsWorkSide s w) ws → AreOf s.board (map worker_of ws)
 workers_own s [] all = tt

@@ -1,5 +1,5 @@
 -- Parts of a turn, one after another.
-use Rattle.history.proofs.Requests.{bool_cases, same_itself, same_true}
+use Rattle.history.proofs.Requests.{bool_cases, same_true}
 use Rattle.board.proofs.EventsTogether.{among_both, answered_both, answered_then, goes_nowhere, goes_on, goes_on_then, new_both}
 use Rattle.board.specs.Polls.{polled_by}
 use Rattle.board.specs.declared.poller.Polled.{Polled}
@@ -7,7 +7,7 @@ use Rattle.board.specs.declared.poller.Released.{Released}
 use Rattle.board.specs.declared.poller.Released.TheVariants.{Severed, Freed, Shut, Timer, NotHeld}
 use Rattle.ready.specs.Ready.{Facts as QueueFacts, IsQueuePass}
 use Rattle.runtime.specs.declared.poll_state.PollState.{PollState}
-use Rattle.runtime.proofs.Common.{AreNew, Bool, Cares, Did, Event, Facts, Goes, GoesOn, HandedOver, HasTicked, Intake, IsAt, IsOf, IsPollTurn, Line, List, LooksAfter, MayRelease, MayRing, Moves, Owed, Pass, Places, Rang, Req, Sleeping, [], answered_by, answered_one, ap, append-nil, append_assoc, arith, cond, false, freed, inl, is_among, length, length-append, own_both, own_of, refl, same, subst, sym, ticked, true, true≢false, with_request, ℕ, ⊎_elim, ◌++◌, ◌+◌, ◌∙◌, ◌∷◌, ◌≡◌, ◌≢◌, ◌⊎◌}
+use Rattle.runtime.proofs.Common.{AreNew, Bool, Cares, Did, Event, Facts, Goes, GoesOn, HandedOver, HasTicked, Intake, IsAt, IsOf, IsPollTurn, Line, List, LooksAfter, MayRelease, MayRing, Moves, Owed, Pass, Places, Rang, Req, Sleeping, [], answered_by, ap, append-nil, append_assoc, arith, cond, false, freed, inl, is_among, length, length-append, refl, same, subst, sym, ticked, true, true≢false, with_request, ℕ, ⊎_elim, ◌++◌, ◌+◌, ◌∙◌, ◌∷◌, ◌≡◌, ◌≢◌, ◌⊎◌}
 use Rattle.runtime.proofs.ClockLaws.{none_then, still_pollers, ticks_then}
 
 pub rang_then : (b : Facts) (h m k : PollState) (o u w : Places) → Rang b h o m u → Rang b m u k w → Rang b h o k w

@@ -1,12 +1,11 @@
 -- What a poll turn makes of its desk and of the outbox.
-use Rattle.std.specs.Prelude.{◌≡◌, ◌≢◌, ◌⊎◌, ℕ, ◌+◌, ◌<◌, ◌≤◌, true, false, cond, List, [], ◌++◌, ◌∷◌, length, slice_index, sum_by}
+use Rattle.std.specs.Prelude.{◌≡◌, ◌≢◌, ◌⊎◌, ℕ, ◌+◌, ◌<◌, ◌≤◌, true, false, cond, List, [], ◌++◌, length, slice_index, sum_by}
 use Rattle.history.specs.declared.req.Req.{Req}
 use Rattle.history.specs.declared.event.Event.{Event}
 use Rattle.history.specs.Ticked.{ticked}
 use Rattle.board.specs.PassEvents.{GoesOn, answered_by, is_among, AreNew}
 use Rattle.board.specs.declared.shape.RingShape.{RingShape}
 use Rattle.steps.specs.declared.view.Role.TheVariants.{Poller}
-use Rattle.steps.specs.declared.line.Line.{Line}
 use Rattle.steps.specs.Journal.{freed}
 use Rattle.work.specs.{Facts, IsOf, Pass, seen_of}
 use Rattle.ready.specs.Ready.{Facts as QueueFacts, Moves, IsQueuePass}
