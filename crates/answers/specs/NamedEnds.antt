@@ -15,7 +15,7 @@ pipe_with no_end = None
 pipe_with (read_end p) = Some p
 pipe_with (write_end p) = Some p
 
--- the pipe of an end, where it is one of so many
+-- the pipe of an end, where it is one of this many
 abbrev pub IsAmong : End → ℕ → Option ℕ → Type 0
 IsAmong x n None = (q : ℕ) → q < n → is_at x q ≡ false
 IsAmong x n (Some p) = (p < n) × (is_at x p ≡ true)
@@ -32,7 +32,7 @@ are_of_one x z = is_same_pipe (pipe_with x) (pipe_with z)
 abbrev pub UsesSome : Op → Type 0
 UsesSome op = (p : ℕ) × (uses_at op p ≡ true)
 
--- among so many pipes it is answered from none
+-- among this many pipes it is answered from none
 abbrev pub UsesNone : Op → ℕ → Type 0
 UsesNone op n = (q : ℕ) → q < n → uses_at op q ≡ false
 
@@ -54,7 +54,7 @@ pub record UsesBoth (op : Op) (n source target : ℕ) : Type 0 where
   pub joins : JoinsPipes op source target
   pub apart : source ≢ target
 
--- among so many pipes these are the ones that the operation is answered from
+-- among this many pipes these are the ones that the operation is answered from
 abbrev pub AreNamed : Op → ℕ → NamedPipes → Type 0
 AreNamed op n Nothing = UsesNone op n
 AreNamed op n (One p) = UsesOne op n p

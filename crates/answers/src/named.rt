@@ -25,7 +25,7 @@ macro_rules! named {
     ((cancel $kind:ident $($field:ident)*) $args:tt) => { NamedPipes::Nothing };
 }
 
-/// The pipes that the operation is answered from, among so many: those whose ends it names by its fds.
+/// The pipes that the operation is answered from, among this many: those whose ends it names by its fds.
 pub fn pipes_of(op: Op, pipes: u64) -> NamedPipes
     ensures { AreNamed op pipes result }
 {
@@ -65,7 +65,7 @@ fn both_of(op: Op, fd_in: i32, fd_out: i32, pipes: u64) -> NamedPipes
     }
 }
 
-/// The pipe of the end `fd`, where it is one of so many.
+/// The pipe of the end `fd`, where it is one of this many.
 fn pipe_among(fd: i32, pipes: u64) -> Option<u64>
     ensures { IsAmong (end_of fd) pipes result }
 {

@@ -17,7 +17,7 @@ at_now [] id v w e = absurd (some-ne-none v (sym e))
 at_now (x ∷ vs) zero v w e = refl
 at_now (x ∷ vs) (suc id) v w e = at_now vs id v w e
 
--- the seat id goes on with w, whose role is that of v
+-- the seat id continues with w, whose role is that of v
 module _ (vs : List View) (id : ℕ) (v w : View) (at : get_elem? vs id ≡ some v) (role : w.role ≡ v.role) where
   pub between_stays : (q : ℕ) → (v.role ≡ Ringer q → v.between ≡ true → w.between ≡ true) → IsBetween vs q → IsBetween (set vs id w) q
   between_stays q still b = dite (ℕ_discrete b.0 id)

@@ -16,11 +16,11 @@ is_sleeper n id s v k at role =
 no_ringer : (v : View) (r : ℕ) → v.role ≡ Sleeper → ¬ (v.role ≡ Ringer r)
 no_ringer v r e f = let g : Sleeper ≡ Ringer r = sym e ∙ f in cc
 
--- the history goes on to h, which adds no find of a ringer
+-- the history continues to h, which adds no find of a ringer
 abbrev NoneMore : List Change → List Change → Type 0
 NoneMore g h = (q : ℕ) (seen : List Change) → SawFinds q seen g → SawFinds q seen h
 
--- the rings' words, where the sleeper goes on with w, and has seen the history h
+-- the rings' words, where the sleeper continues with w, and has seen the history h
 module _ (n id : ℕ) (s : State ℕ View) (v w : View) (k : Ruled n s) (at : get_elem? s.views id ≡ some v) (role : v.role ≡ Sleeper) (kept : w.role ≡ v.role) (rings : w.rings ≡ v.rings) where
   both : (id ≡ 0) × (k.sleeper ≡ v)
   both = is_sleeper n id s v k at role

@@ -58,7 +58,7 @@ IsSleeperOf b s = (s.table ≡ b.table) × (length s.tails ≡ b.rings)
 abbrev pub HaveRisen : List ℕ → List ℕ → Type 0
 HaveRisen old new = (length new ≡ length old) × ((r : ℕ) → slice_index old r ≤ slice_index new r)
 
--- the table of a bell for so many rings
+-- the table of a bell for this many rings
 abbrev pub IsBell : TableId → ℕ → Type 0
 IsBell table rings = (table.words ≡ rings + 1) × (rings < 17)
 

@@ -18,7 +18,7 @@ use std::sync::ledger::{Blank, Ledger};
 /// The most rings of a bell.
 pub const MAX_RINGS: u16 = 16;
 
-/// A doorbell for so many rings. A pass belongs to the bell that made it.
+/// A doorbell for this many rings. A pass belongs to the bell that made it.
 #[derive(Drop)]
 pub struct Bell {
     table: Table<u8, View, u64, Law, Global>,

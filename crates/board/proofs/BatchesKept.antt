@@ -22,7 +22,7 @@ none_left [] (suc i) le = refl
 none_left (x ∷ xs) zero le = absurd (omega arith)
 none_left (x ∷ xs) (suc i) le = none_left xs i (omega arith)
 
--- ---- a pass that goes on by several events of its own
+-- ---- a pass that continues with several events of its own
 
 pub goes_more : (b : Facts) (p m q : Pass) (e : Event) (es : List Event) → Goes b p es m → Goes b m (e ∷ []) q → Goes b p (e ∷ es) q
 goes_more b p m q e es x y = record {
@@ -113,7 +113,7 @@ pub empty_is : (xs : Entries) → is_empty xs ≡ (length xs == 0)
 empty_is [] = refl
 empty_is (x ∷ xs) = sym (ne_eqb (length (x ∷ xs)) 0 (λ e. let n : ℕ = length xs in omega arith))
 
--- what a submitter that goes on with a batch may do now
+-- what a submitter that continues with a batch may do now
 module _ (b : Facts) (p q : Pass) (ring k : ℕ) (all rest : Entries) (x : Entry × Vec ℕ) (g : Going b p q ring k all (x ∷ rest)) where
   pub going_ring : (i : ℕ) → q.view.role ≡ Submitter i → ring ≡ i
   going_ring i role = let z = sym g.ready.role ∙ role in cc

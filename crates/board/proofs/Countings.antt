@@ -63,7 +63,7 @@ module _ (b : Facts) (t : TableSeat) (q : Req) (o : IsOf b (pass_of t)) where
 
 -- ---- the poller goes over them
 
--- the requests after r and before k were looked at, and of these so many have replied
+-- the requests after r and before k were looked at, and this many of these have replied
 pub record IsCounted (b : Facts) (s t : TableSeat) (r : Req) (k found : ℕ) : Type 0 where
   pub watched : Watched b s t
   pub low : r.k < k

@@ -22,7 +22,7 @@ placed_links b e = ⊎_elim
 own_links : (h : _) (q : Req) (y : Submitted) (d : Entry) → submission h q ≡ Some y → IsPlaced h q d → links d ≡ links y.entry
 own_links h q y d is p = let z : placed_behind (before_in h q) y.entry ≡ d = (let k = sym (ap (placed_from (before_in h q)) is) ∙ p in cc) in ap links (sym z) ∙ placed_links (before_in h q) y.entry
 
--- what is known of the chain of a request by its facts: that it goes on, or that it ends, or that it is done
+-- what is known of the chain of a request by its facts: that it continues, or that it ends, or that it is done
 abbrev pub Tells : List Event → Req → Bool → Type 0
 Tells h q true = joins (submission h q) ≡ true
 Tells h q false = (joins (submission h q) ≡ false) ⊎ IsChainDone h q

@@ -126,7 +126,7 @@ notes_more b p m q r l silent t k x = let none = lent_none r.ring r refl x.saw.l
   own = silent_own (Submitter r.ring) l (x.saw.later ++ k.later) silent (own_append (Submitter r.ring) x.saw.later k.later none ∙ k.own);
 }
 
--- and goes on by one event of its own
+-- and continues with one event of its own
 pub notes_end : (b : Facts) (p m q : Pass) (r : Req) (e : Event) → p.view.role ≡ Submitter r.ring → owner (Did e) ≡ rings r.ring → q.table ≡ m.table → Noting b p m r → Extends m.view (Did e) (Submitter r.ring) q.view → Goes b p (e ∷ []) q
 notes_end b p m q r e role mine t k x =
     let i = r.ring in let none = lent_none i r refl x.saw.later (subst (λ (z : Role). NoneOf z x.saw.later) k.role x.saw.none) in
@@ -145,7 +145,7 @@ pub goes_twice : (b : Facts) (p q : Pass) (r : Req) (k : Line) (e : Event) → (
     → ExtendsTwice p.view k (Lending r) (Did e) (Submitter r.ring) q.view → Goes b p (e ∷ []) q
 goes_twice b p q r k e silent o t role mine x = let m : Pass = record p { view = x.0 } in notes_end b p m q r e role mine t (notes_first b p m r k silent o refl role x.1) x.2
 
--- a submitter that has noted for its request stores these notes as well, and then goes on by one event of its own
+-- a submitter that has noted for its request stores these notes as well, and then continues with one event of its own
 notes_then : (b : Facts) (p m q : Pass) (r : Req) (notes : List (ℕ × ℕ)) (e : Event) → p.view.role ≡ Submitter r.ring → owner (Did e) ≡ rings r.ring → q.table ≡ m.table → Noting b p m r → ExtendsAfter m.view r notes (Did e) (Submitter r.ring) q.view → Goes b p (e ∷ []) q
 notes_then b p m q r [] e role mine t k x = notes_end b p m q r e role mine t k x
 notes_then b p m q r (n ∷ notes) e role mine t k x = let w : Pass = record m { view = x.0 } in notes_then b p w q r notes e role mine t (notes_more b p m w r (Noted r n.0 n.1) (λ h. refl) refl k x.1) x.2

@@ -46,7 +46,7 @@ saw_both : (j : List Line) (ps qs : List Pass) → SawOwnLines j ps → SawOwnLi
 saw_both j [] qs h k = k
 saw_both j (p ∷ ps) qs h k = (h.0, saw_both j ps qs h.1 k)
 
--- what is known at the end goes on after what they had seen without lines of their own
+-- what is known at the end continues after what they had seen without lines of their own
 pub saw_by : (j : List Line) (p : Pass) (ss ws : List Pass) → Saw p.view.role p.view.seen j → AllSaw j (told_by ws (told_by ss p.view.heard)) → SawOwnLines j (p ∷ (ss ++ ws))
 saw_by j p ss ws b a = let w = saw_of j ws (told_by ss p.view.heard) a in let s = saw_of j ss p.view.heard w.1 in (b, saw_both j ss ws s.0 w.0)
 

@@ -1,5 +1,5 @@
 -- A request that has replied, put back by a Park as if it hadn't: what is open, or severed, is so with it as without it, and a
--- list that trails a history in which the request waits goes on to trail what follows, with the request put back.
+-- list that trails a history in which the request waits continues to trail what follows, with the request put back.
 use Rattle.history.proofs.Opening.{placed_stays, chain_was, done_stays}
 use Rattle.gates.specs.Shows.{nth}
 use Rattle.board.proofs.Common.{Bool, Entry, Event, HasNotSevered, HaveGoneOn, IsBefore, IsChainDone, IsChained, IsClear, IsOutcome, IsPlaced, IsReplied, Legal, List, MayCome, Open, Park, Req, Setup, Severed, Slot, Some, StandsIn, TrailedAt, Trails, [], ap, arith, bool_cases, cond, counted, false, gate_of, inl, inr, is_link_timeout_in, phase, placed, previous, refl, replied_of_reply, reply, reply_in, reply_stays, same, same_false, same_itself, same_true, submission, submission_stays, submits, subst, sym, true, waits, ℕ, ℤ, ⊎_elim, ◌++◌, ◌<◌, ◌∙◌, ◌∷◌, ◌≡◌, ◌≤◌}

@@ -35,7 +35,7 @@ module _ (b : Facts) (p q : Pass) (es : List Event) (x : Goes b p es q) where
 pub knows_on : (b : Facts) (s t : TableSeat) → Watched b s t → (K : List ℕ) (i : ℕ) (r : Kept) → KnowsRow K s.me.0.seen i r → KnowsRow K t.me.0.seen i r
 knows_on b s t x K i r k = knows_goes b (pass_of s) (pass_of t) [] x.goes K i r k
 
--- a LINK_TIMEOUT that waits goes on to wait
+-- a LINK_TIMEOUT that waits continues to wait
 timer_on : (b : Facts) (s t : TableSeat) → Watched b s t → (q : Req) → q.k < submits (events_of s.me.0.seen) q.ring → (IsLinkTimeout (events_of s.me.0.seen) q → phase (events_of s.me.0.seen) q ≡ waits) → IsLinkTimeout (events_of t.me.0.seen) q → phase (events_of t.me.0.seen) q ≡ waits
 timer_on b s t x q born held link =
     let S : Setup = setup_of b.layout in let j : List Line = s.me.0.seen in let later : List Line = x.goes.later in let all : t.me.0.seen ≡ later ++ j = x.goes.seen_is in

@@ -200,7 +200,7 @@ module _ (b : Facts) (s t : TableSeat) (r : Req) (x g : ℕ) (o : IsOurs b s) (a
 
 -- ---- the whole call
 
--- it goes on to be due while the poller looks
+-- it continues to be due while the poller looks
 pub due_on : (b : Facts) (s t : TableSeat) (r : Req) → Watched b s t → IsDueLinked (events_of s.me.0.seen) r → IsDueLinked (events_of t.me.0.seen) r
 due_on b s t r w due = record {
   linked = linked_on b s t r w due.born due.linked;

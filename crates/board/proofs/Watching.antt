@@ -11,7 +11,7 @@ TableSeat = Seat (Option Thing) View
 pub seat_looked : (s t : TableSeat) → IsPollerSeat s → t.me.1 ≡ s.me.1 → Looks s.me.0 t.me.0 → IsPollerSeat t
 seat_looked s t k same x = record { role = ap (λ (z : View). z.role) x.is ∙ (k.role ∙ ap (λ (z : View). Poller (length z.layout.cells)) (sym x.is)); bare = same ∙ k.bare }
 
--- and so does one that goes on by an event of its own
+-- and so does one that continues with an event of its own
 pub seat_own : (s t : TableSeat) (e : Event) → IsPollerSeat s → t.me.1 ≡ s.me.1 → Extends s.me.0 (Did e) s.me.0.role t.me.0 → IsPollerSeat t
 seat_own s t e k same x = record { role = ap (λ (z : View). z.role) x.is ∙ (k.role ∙ ap (λ (z : View). Poller (length z.layout.cells)) (sym x.is)); bare = same ∙ k.bare }
 

@@ -84,7 +84,7 @@ abbrev pub steps_elsewhere : ℕ → List Step → ℕ
 steps_elsewhere word [] = 0
 steps_elsewhere word (s ∷ l) = cond (s.word == word) 0 1 + steps_elsewhere word l
 
--- of the steps that were made between the two views, so many at most were at the request's claim word, and so many at other words
+-- of the steps that were made between the two views, at most this many were at the request's claim word, and this many at other words
 pub record Spends (K : List ℕ) (r : Req) (v w : View) (own others : ℕ) : Type 0 where
   pub steps : List Step
   pub is : w.steps ≡ steps ++ v.steps

@@ -34,7 +34,7 @@ pub record KnowsChains (v : View) (ring next done : ℕ) (hosted : Bool) : Type 
 abbrev pub IsQueue : Seat (Option Thing) View → Queue → Type 0
 IsQueue s a = IsSubmitterSeat s a.ring a.next a.ages.items a.facts.items × KnowsChains s.me.0 a.ring a.next a.done a.hosted
 
--- the facts are those of a request of this generation, and its chain goes on after it
+-- the facts are those of a request of this generation, and its chain continues after it
 abbrev pub continues : Facts → ℕ → Bool
 continues f g = (f.generation == g) && ((f.links_soft || f.links_hard) && not f.last)
 
@@ -68,7 +68,7 @@ pub record IsOver (table : TableId) (K : List ℕ) (s : Seat (Option Thing) View
   pub cells_are : K ≡ s.me.0.layout.cells
   pub wide : table.words ≡ words_of (total K)
 
--- the cells of the ring's next requests, so many of them, are free
+-- the cells of the ring's next requests, this many of them, are free
 abbrev pub AreFree : List ℕ → View → ℕ → ℕ → ℕ → Type 0
 AreFree K v ring next count = (i : ℕ) → i < count → IsFree K (events_of v.seen) (nth ring (next + i))
 
@@ -80,7 +80,7 @@ IsFreeAfter a K k = (s : Seat (Option Thing) View) (d : ℕ) → IsQueue s (reco
 abbrev pub HasLookedAt : List ℕ → ℕ → Pass → Pass → Type 0
 HasLookedAt K ring p q = (m : Req) × (m.ring ≡ ring) × Stepped K m p q
 
--- why the ring's next requests, from k on and so many, find no room, by the pass p that became q
+-- why the ring's next requests, from k on and this many, find no room, by the pass p that became q
 abbrev pub RefusesRoom : List ℕ → ℕ → ℕ → ℕ → Pass → Pass → SubmitError → Type 0
 RefusesRoom K ring k count p q Full = (cells_in K ring < count) ⊎ (((i : ℕ) × (i < count) × ¬ IsFree K (seen_of q) (nth ring (k + i))) × HasLookedAt K ring p q)
 RefusesRoom K ring k count p q Spent = AreFree K q.view ring k count × ((i : ℕ) × (i < count) × ((k + i) / cells_in K ring ≡ LAST_GENERATION))

@@ -57,7 +57,7 @@ abbrev pub BeginsWith : List Line → List Pass → Type 0
 BeginsWith j [] = Unit {0}
 BeginsWith j (p ∷ ps) = Begins j p.view.seen × BeginsWith j ps
 
--- and goes on after that without lines of the pass's own role
+-- and continues after that without lines of the pass's own role
 abbrev pub SawOwnLines : List Line → List Pass → Type 0
 SawOwnLines j [] = Unit {0}
 SawOwnLines j (p ∷ ps) = Saw p.view.role p.view.seen j × SawOwnLines j ps

@@ -162,7 +162,7 @@ counted_by _ r = []
 abbrev pub HasCounted : List Event → Req → Type 0
 HasCounted h r = phase h r ≡ replied by_count (pos 0)
 
--- an armed TIMEOUT that counts completions, and so many later requests of its ring have not been answered
+-- an armed TIMEOUT that counts completions, and this many later requests of its ring have not been answered
 pub record HasFewer (h : List Event) (r : Req) : Type 0 where
   pub is_armed : IsArmed h r
   pub entry : Entry
@@ -170,7 +170,7 @@ pub record HasFewer (h : List Event) (r : Req) : Type 0 where
   pub counts : 0 < count_of entry.op
   pub fewer : later_replies h r < count_of entry.op
 
--- it counts so many completions, which are some
+-- it counts this many completions, which are some
 abbrev pub IsCounting : List Event → Req → ℕ → Type 0
 IsCounting h r n = (e : Entry) × IsPlaced h r e × (n ≡ count_of e.op) × (0 < n)
 

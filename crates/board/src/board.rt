@@ -96,7 +96,7 @@ fn cut_submitters(
     Ok(submitters)
 }
 
-/// So many workers, whose seats leave the poller's, with room for what each of them takes in a run: a cancel can take all other
+/// This many workers, whose seats leave the poller's, with room for what each of them takes in a run: a cancel can take all other
 /// requests that its ring has cells for, and from a pipe a run takes along as many as there are cells.
 fn cut_workers(
     alloc: Global,

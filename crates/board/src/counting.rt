@@ -36,7 +36,7 @@ fn has_replied(board: &Board, seat: &mut TableSeat, req: Req) -> Option<bool>
     }
 }
 
-/// Whether so many later requests of its ring have replied. It looks at no more than may have been submitted while the request
+/// Whether this many later requests of its ring have replied. It looks at no more than may have been submitted while the request
 /// keeps its cell.
 fn has_counted(board: &Board, seat: &mut TableSeat, req: Req, count: u64) -> bool
     requires ours { IsOurs board.now seat.old }

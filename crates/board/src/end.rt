@@ -57,7 +57,7 @@ impl Model for ReportRoom {
 }
 
 impl Room {
-    /// Room for so many cells.
+    /// Room for this many cells.
     fn new(alloc: Global, cells: usize) -> Result<Room, AllocError>
         ensures claims { IfOk result (λ r. (r.last_cells.claims.items ≡ []) × (cells ≤ vec_capacity r.last_cells.claims)) }
         ensures slots { IfOk result (λ r. (r.last_cells.slots.items ≡ []) × (cells ≤ vec_capacity r.last_cells.slots)) }

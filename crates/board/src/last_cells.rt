@@ -17,7 +17,7 @@ pub(crate) struct LastCells {
 }
 
 impl LastCells {
-    /// Room for so many cells.
+    /// Room for this many cells.
     pub fn with_room(alloc: Global, cells: usize) -> Result<LastCells, AllocError>
         ensures claims { IfOk result (λ r. (r.claims.items ≡ []) × (cells ≤ vec_capacity r.claims)) }
         ensures slots { IfOk result (λ r. (r.slots.items ≡ []) × (cells ≤ vec_capacity r.slots)) }

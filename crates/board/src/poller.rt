@@ -102,7 +102,7 @@ pub enum Counting {
 pub enum Firing {
     /// Its target was answered with -125 (ECANCELED) now, and it with -62 (ETIME).
     Took,
-    /// A worker runs its target, which goes on. It was answered with -62 (ETIME) now.
+    /// A worker runs its target, which continues. It was answered with -62 (ETIME) now.
     Missed,
     /// Its target has replied: it is to be settled. Nothing has changed.
     TargetDone,
@@ -132,7 +132,7 @@ pub enum Polled {
     Counted,
     /// A LINK_TIMEOUT fired: its target was answered with -125 (ECANCELED) now, and it with -62 (ETIME).
     Took,
-    /// A LINK_TIMEOUT fired while a worker runs its target, which goes on. It was answered with -62 (ETIME) now.
+    /// A LINK_TIMEOUT fired while a worker runs its target, which continues. It was answered with -62 (ETIME) now.
     Missed,
     /// A LINK_TIMEOUT's target had replied: it was answered with -125 (ECANCELED) now.
     Settled,

@@ -67,7 +67,7 @@ pub(crate) fn hosts(sqe: &Sqe, last: bool) -> bool
     (sqe.links_soft() || sqe.links_hard()) && !last && !sqe.op().is_link_timeout()
 }
 
-/// Whether these facts are those of a request of this generation, whose chain goes on after it.
+/// Whether these facts are those of a request of this generation, whose chain continues after it.
 fn goes_on(word: u64, generation: u64) -> bool
     ensures { (f : FactsOf) × IsTrue (fits_facts f) × (packed_facts f ≡ word) × (result ≡ continues f generation) }
 {
@@ -173,7 +173,7 @@ fn pass_chains(
     true
 }
 
-/// The first of the ring's next requests, so many of them, before which not all of its cell were reaped.
+/// The first of the ring's next requests, this many of them, before which not all of its cell were reaped.
 fn first_unreaped(queue: &Queue, grid: &Grid, count: u64) -> Option<u64>
     requires queue { (s : Seat (Option Thing) View) × IsQueue s queue.now × (grid.now ≡ s.me.0.layout.cells) }
     requires fits { count ≤ cells_in grid.now queue.now.ring }
@@ -218,7 +218,7 @@ fn is_known_free(queue: &Queue, grid: &Grid, k: u64) -> bool
     generation == 0 || !goes_on(queue.facts[cell.number], generation - 1)
 }
 
-/// Whether what is kept of the cells of the ring's next requests, so many of them, says that they are free, and may have one more each.
+/// Whether what is kept of the cells of the ring's next requests, this many of them, says that they are free, and may have one more each.
 fn are_known_free(queue: &Queue, grid: &Grid, count: u64) -> bool
     requires queue { (s : Seat (Option Thing) View) × IsQueue s queue.now × (grid.now ≡ s.me.0.layout.cells) }
     requires fits { count ≤ cells_in grid.now queue.now.ring }
@@ -233,7 +233,7 @@ fn are_known_free(queue: &Queue, grid: &Grid, count: u64) -> bool
     true
 }
 
-/// Whether there is room for the ring's next requests, so many of them: their cells are free, and have had fewer requests than
+/// Whether there is room for the ring's next requests, this many of them: their cells are free, and have had fewer requests than
 /// they can have. Where a cell isn't free it looks before it says so: `Full` is true of the history after a step of this very call.
 pub(crate) fn room(
     words: &Words,

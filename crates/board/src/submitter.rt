@@ -102,7 +102,7 @@ impl Submitter {
         seat::look(words, &mut self.seat, cell)
     }
 
-    /// Whether there is room for its next requests, so many of them.
+    /// Whether there is room for its next requests, this many of them.
     pub(crate) fn room(&mut self, words: &Words, grid: &Grid, count: u64) -> Result<(), SubmitError>
         requires over { (self.old.table ≡ words.now.table_id) × (grid.now ≡ self.old.view.layout.cells) × (words.now.table_id.words ≡ words_of (total grid.now)) }
         ensures table { self.new.table ≡ self.old.table }

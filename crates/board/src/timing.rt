@@ -84,7 +84,7 @@ impl Board {
         }
     }
 
-    /// Fires a LINK_TIMEOUT that is armed and whose deadline has come: its target is answered with -125 (ECANCELED), or goes on
+    /// Fires a LINK_TIMEOUT that is armed and whose deadline has come: its target is answered with -125 (ECANCELED), or continues
     /// where a worker runs it, and it is answered with -62 (ETIME) (io_uring_prep_link_timeout(3)).
     pub fn fire(&self, poller: &mut Poller, req: Req) -> Firing
         requires { IsOf self.now poller.old }

@@ -240,7 +240,7 @@ fn first_line(lines: &str) -> (&str, &str) {
     lines.split_once('\n').unwrap_or((lines, ""))
 }
 
-/// Goes on with a board after its first `finish`: each part begins with what stands after that word.
+/// Continues with a board after its first `finish`: each part begins with what stands after that word.
 fn play_on<R: AllocGlobal + Print>(
     judge: &mut Judge<'_, R>,
     board: Board,

@@ -311,7 +311,7 @@ fn run(alloc: Global, board: &Board, cast: &mut Cast<'_>, number: usize) -> Prin
     printed
 }
 
-/// Releases, begins and runs so many requests of a ring, up to the first that doesn't reply: `serve WORKER REQUEST COUNT`.
+/// Releases, begins and runs this many requests of a ring, up to the first that doesn't reply: `serve WORKER REQUEST COUNT`.
 fn serve<'a>(board: &'a Board, cast: &mut Cast<'a>, words: &mut Words<'_>) -> Printed
     requires { IsCast board.now cast.old }
     ensures { IsCast board.now cast.new }

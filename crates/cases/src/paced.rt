@@ -8,7 +8,7 @@ use std::sync::atomic::{AtomicU64, Ordering};
 use std::thread::Threads;
 use std::time::{Clock, Duration};
 
-/// A machine with a clock on which each look is so many milliseconds after the last.
+/// A machine with a clock on which each look is this many milliseconds after the last.
 #[derive(Clone, Copy)]
 struct Paced<R> {
     rt: R,

@@ -185,7 +185,7 @@ pub fn surveyed<R: Machine>(rt: &R, script: &str) -> Printed {
     said(rt.alloc(), text)
 }
 
-/// Whether a run prints the right table of a script that writes so many letters at once to an empty pipe of this capacity, and
+/// Whether a run prints the right table of a script that writes this many letters at once to an empty pipe of this capacity, and
 /// then reads as many: what fits in goes in, and comes out.
 pub fn pours<R: Machine>(rt: &R, words: &mut Words<'_>) -> Printed {
     let alloc = rt.alloc();

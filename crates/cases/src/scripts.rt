@@ -38,7 +38,7 @@ pub fn printed_of_whole(alloc: Global, script: &[u8]) -> Printed {
     printed(alloc, script)
 }
 
-/// What is printed of a script whose one WRITE has a TEXT of so many bytes.
+/// What is printed of a script whose one WRITE has a TEXT of this many bytes.
 pub fn printed_of_long(words: &mut Words<'_>) -> Printed {
     let (alloc, count) = (words.alloc, words.number());
     words.end()?;

@@ -26,7 +26,7 @@ impl From<Memory> for Slip {
 }
 
 impl Walk {
-    /// So many rings, and a pipe for each capacity after them.
+    /// This many rings, and a pipe for each capacity after them.
     pub fn new(words: &mut Words<'_>) -> Result<Walk, Slip> {
         let (alloc, rings) = (words.alloc, words.number());
         let mut capacities = Vec::new(alloc);
@@ -203,7 +203,7 @@ impl Walk {
         Ok(is_right)
     }
 
-    /// So many NOPs, one after another.
+    /// This many NOPs, one after another.
     fn nops(&mut self, alloc: Global, count: u64) -> Printed {
         for k in 0..count {
             let items = format!(in alloc;

@@ -131,7 +131,7 @@ impl<'a> Words<'a> {
         }
     }
 
-    /// The next word as the digits of so many bytes.
+    /// The next word as the digits of this many bytes.
     pub fn array<const N: usize>(&mut self) -> [u8; N]
         ensures kept { IsTrue self.old.is_bad → IsTrue self.new.is_bad }
         ensures missing { self.old.rest ≡ None → IsTrue self.new.is_bad }

@@ -29,7 +29,7 @@ pub record AreSeveral (c : Script) (tables : List (List (ℤ × List ℕ))) (byt
 abbrev pub IsTablesText : Script → List (List (ℤ × List ℕ)) → List ℕ → Type 0
 IsTablesText c tables bytes = ((rows : List (ℤ × List ℕ)) × (tables ≡ rows ∷ []) × IsTableText c.entries.items rows bytes) ⊎ AreSeveral c tables bytes
 
--- what may be answered in place of the table of a part, where so many tables stand before it: the number of a line that differs, or
+-- what may be answered in place of the table of a part, where this many tables stand before it: the number of a line that differs, or
 -- of the line after a whole table that no empty line follows
 pub record IsBadPart (c : Script) (part : List ℕ) (before n : ℕ) : Type 0 where
   pub line : ℕ

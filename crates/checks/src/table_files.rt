@@ -22,7 +22,7 @@ fn cut(bytes: &[u8]) -> Option<(&[u8], &[u8])>
     None
 }
 
-/// The number of a line of a part of a file, where so many tables of so many lines stand before the part, each with its empty
+/// The number of a line of a part of a file, where this many tables of this many lines stand before the part, each with its empty
 /// line.
 fn number_of(before: usize, lines: usize, line: u64) -> u64
     ensures { result ≡ min (before * (lines + 1) + line) 18446744073709551615 }

@@ -20,7 +20,7 @@ use std::{io, str};
 /// IOSQE_IO_LINK.
 const LINK: u8 = 4;
 
-/// A clock that goes on by one tick at each turn of the poller.
+/// A clock that advances by one tick at each turn of the poller.
 #[derive(Clone, Copy)]
 struct Ticking;
 

@@ -28,7 +28,7 @@ pub enum Look {
 /// meanwhile how many it has met.
 #[derive(Clone, Copy, Debug)]
 pub enum Job {
-    /// A script is carried out on a board with so many workers, once or so many times. Each waiting line is tried at most
+    /// A script is carried out on a board with this many workers, once or this many times. Each waiting line is tried at most
     /// `turns` times.
     Run {
         workers: u32,

@@ -1,4 +1,4 @@
--- Loops over files and runs: what is made so far goes on with whatever is made of the rest.
+-- Loops over files and runs: what is made so far continues with whatever is made of the rest.
 use Rattle.std.proofs.Math.Seq.{drop-cons}
 use Rattle.std.specs.Borrow.{Bor}
 use Rattle.std.specs.Global.{Vec}

@@ -19,7 +19,7 @@ use Rattle.command_line.specs.declared.job.Look.TheVariants.{Lines, Lanes, Merma
 
 -- ---- runs
 
--- each is the table of a run with so many workers, and one of the script's
+-- each is the table of a run with this many workers, and one of the script's
 abbrev pub AreRuns : Script → ℕ → List Table → Type 0
 AreRuns c workers runs = AllByRecursion (λ t. HasRun c workers t.lines.items × IsTableOf c (rows_of t)) runs
 

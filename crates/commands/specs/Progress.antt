@@ -15,7 +15,7 @@ is_observed (Outcomes stats explain limit progress json) = progress
 is_observed (History look limit progress) = progress
 is_observed (Check limit progress json) = progress
 
--- so many lines went to the end, or a beginning of each, each with a number of states that the script has, and nothing else
+-- this many lines went to the end, or a beginning of each, each with a number of states that the script has, and nothing else
 abbrev pub SaysBy : Script → ℕ → Option (List ℕ) → Option (List ℕ) → Type 0
 SaysBy c zero old new = Keeps old new
 SaysBy c (suc n) old new = (before : Option (List ℕ)) × (states : ℕ) × SaysBy c n old before × HasStates c states × AppendsSome before new (states_line states)

@@ -13,7 +13,7 @@ use Rattle.command_line.specs.declared.job.Job.{Job}
 use Rattle.command_line.specs.declared.job.Job.TheVariants.{Run, Outcomes, History, Check}
 use Rattle.commands.specs.Given.{AreRead, Known}
 
--- of a search that meets at most so many states: more were met, or memory ran out
+-- of a search that meets at most this many states: more were met, or memory ran out
 abbrev pub IsOfLimit : Script → ℕ → Problem → Type 0
 IsOfLimit c limit TooManyStates = HasMore c limit
 IsOfLimit c limit Problem.Memory = Unit {0}

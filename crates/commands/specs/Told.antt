@@ -26,7 +26,7 @@ line_of (Stuck label) = codes "stuck " ++ (string_bytes label ++ codes "\n")
 line_of (Problem.Line (ScriptFault.Line line fault)) = codes "line " ++ (decimal line ++ (codes ": " ++ (fault_words fault ++ codes "\n")))
 line_of (Problem.Line ScriptFault.Memory) = codes "fault: memory\n"
 
--- how many in a second, where there were so many in some nanoseconds
+-- how many in a second, where there were this many in some nanoseconds
 abbrev pub rate_in : ℕ → ℕ → ℕ
 rate_in count nanos = min (count * 1000000000) 18446744073709551615 / max nanos 1
 

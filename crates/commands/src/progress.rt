@@ -10,13 +10,13 @@ use std::io;
 use std::io::Write;
 use std::time::{Clock, Instant};
 
-/// After so many notes the time is asked for.
+/// After this many notes the time is asked for.
 const NOTES: u32 = 1024;
 
-/// The first line comes after so many nanoseconds.
+/// The first line comes after this many nanoseconds.
 const FIRST: u64 = 2_000_000_000;
 
-/// And each further one after so many more.
+/// And each further one after this many more.
 const NEXT: u64 = 1_000_000_000;
 
 /// Whether it is to be told how far its searches are.

@@ -21,7 +21,7 @@ pub(crate) struct Runs {
     pub times: Option<u32>,
 }
 
-/// The tables of so many runs.
+/// The tables of this many runs.
 fn tables_of<R: Threads + Wait + Copy + Send + Sync + 'static>(
     rt: &R,
     alloc: Global,

@@ -114,7 +114,7 @@ fn put_line<W: Write>(line: &Line<'_>, out: &mut W) -> Result<(), OutputFault>
     write_out(out, b"\n")
 }
 
-/// How many in a second, where there were so many in these nanoseconds. No time counts as one nanosecond.
+/// How many in a second, where there were this many in these nanoseconds. No time counts as one nanosecond.
 pub fn rate_of(count: u64, nanos: u64) -> u64
     ensures { result ≡ min (count * 1000000000) 18446744073709551615 / max nanos 1 }
 {

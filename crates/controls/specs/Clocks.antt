@@ -22,6 +22,6 @@ abbrev pub Answers : (List Event → Type 0) → List Event → Option ℕ → T
 Answers G h None = G h
 Answers G h (Some n) = (s : Setup) (more : List Event) → Legal s (more ++ h) → ticked more ≡ 0 → (Allowed s (more ++ h) (Tick n) → G (Tick n ∷ (more ++ h))) × (((n < clock_of (more ++ h)) ⊎ (2147483647 < n)) → G (more ++ h))
 
--- where the clock stood with the history and was given its time and how its request stands, it stands with the history as that goes on by its answer
+-- where the clock stood with the history and was given its time and how its request stands, it stands with the history as that continues with its answer
 abbrev pub Advances : (List Event → Type 0) → (List Event → Type 0) → Option Req → ℕ → Option Standing → Option ℕ → Type 0
 Advances F G asked now phase to = (j : List Line) → F (events_of j) → now ≡ clock_of (events_of j) → Asked j asked phase → Answers G (events_of j) to

@@ -22,7 +22,7 @@ pub trait Clock {
     fn ask(&self) -> Option<Req>
         ensures { result ≡ asked self.now };
 
-    /// The next time of the clock in ticks, if it goes on. `now` is the board's time, and `phase` that of the request that it asked
+    /// The next time of the clock in ticks, if it advances. `now` is the board's time, and `phase` that of the request that it asked
     /// for.
     fn advance(&mut self, now: u32, phase: Option<Phase>) -> Option<u32>
         ensures { Advances (follows self.old) (follows self.new) (asked self.old) now phase result };
@@ -31,7 +31,7 @@ pub trait Clock {
     ghost stays: { (c : Self) (s : Setup) (e : Event) (h : List Event) → Legal s (e ∷ h) → counts_tick e ≡ 0 → follows c h → follows c (e ∷ h) };
 }
 
-/// A clock that asks for nothing and never goes on.
+/// A clock that asks for nothing and never advances.
 #[derive(Clone, Copy)]
 pub struct NoClock;
 

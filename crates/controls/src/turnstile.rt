@@ -14,7 +14,7 @@ pub enum Point {
     Post,
 }
 
-/// A thread calls `pass` at each point of each request, and goes on when it returns. So a test can hold a request at a point.
+/// A thread calls `pass` at each point of each request, and continues when it returns. So a test can hold a request at a point.
 /// An implementation returns after a bounded time.
 pub trait Turnstile {
     fn pass(&self, at: Point, r: Req);

@@ -17,7 +17,7 @@ drains e = bit_and e.flags 2 == 2
 abbrev pub links_soft : Entry → Bool
 links_soft e = bit_and e.flags 4 == 4
 
--- the next entry waits for this one, and goes on where it fails; with both flags the link is hard (io_uring_enter(2), IOSQE_IO_HARDLINK)
+-- the next entry waits for this one, and continues where it fails; with both flags the link is hard (io_uring_enter(2), IOSQE_IO_HARDLINK)
 abbrev pub links_hard : Entry → Bool
 links_hard e = bit_and e.flags 8 == 8
 

@@ -21,7 +21,7 @@ impl Sqe {
         self.flags().contains(SqeFlags::IO_LINK)
     }
 
-    /// The next entry waits for this one, and goes on where it fails.
+    /// The next entry waits for this one, and continues where it fails.
     pub fn links_hard(&self) -> bool
         ensures { result ≡ links_hard self.now }
     {

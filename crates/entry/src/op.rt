@@ -24,7 +24,7 @@ pub enum Op {
         mask: u32,
     },
     /// Replies -62 (ETIME) once `ticks` have passed since it was armed. With `etime_success` that is no failure. Where `count`
-    /// isn't 0, it may reply 0 once so many later requests of its ring have replied; -62 stays possible, too.
+    /// isn't 0, it may reply 0 once this many later requests of its ring have replied; -62 stays possible, too.
     Timeout {
         ticks: u32,
         etime_success: bool,

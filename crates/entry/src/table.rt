@@ -14,7 +14,7 @@
 ///
 /// Then stands its buffer: `[no_buffer]`, `[reads len]` of a reply that comes with data, which lie at the front of `len` bytes, or
 /// `[writes len]`. `by_opcode!(buffer of op => body!(args))` is a match by that: the arm of a row is `body!([buffer] (args))`, that of
-/// an Invalid entry, whose buffer nobody looks at, `body!([any_buffer] (args))`.
+/// an Invalid entry, whose buffer is not looked at, `body!([any_buffer] (args))`.
 ///
 /// The body has a rule for each class or kind, so that a new one doesn't compile before each body says what it makes of it.
 #[macro_export]

@@ -21,7 +21,7 @@ at_now [] id v w e = absurd (some-ne-none v (sym e))
 at_now (x ∷ vs) zero v w e = refl
 at_now (x ∷ vs) (suc id) v w e = at_now vs id v w e
 
--- the seat goes on with a view that has its role
+-- the seat continues with a view that has its role
 pub apart_stays : (vs : List View) (id : ℕ) (v w : View) → get_elem? vs id ≡ some v → w.role ≡ v.role → ((i l : ℕ) (x y : View) → get_elem? vs i ≡ some x → get_elem? vs l ≡ some y → x.role ≡ y.role → i ≡ l) → (i l : ℕ) (x y : View) → get_elem? (set vs id w) i ≡ some x → get_elem? (set vs id w) l ≡ some y → x.role ≡ y.role → i ≡ l
 apart_stays vs id v w at role were i l x y p q e =
     let old : (i : ℕ) (x : View) → get_elem? (set vs id w) i ≡ some x → (z : View) × (get_elem? vs i ≡ some z) × (z.role ≡ x.role) = λ i x p. ⊎_elim
@@ -34,7 +34,7 @@ module _ (id : ℕ) (s : State ℕ View) (v : View) (k : Ruled s) (at : get_elem
   not_first : 0 ≢ id
   not_first e = let same : k.maker ≡ v = some-injective k.maker v (sym k.there ∙ subst (λ (i : ℕ). get_elem? s.views i ≡ some v) (sym e) at) in ne (sym (ap (λ (u : View). u.role) same) ∙ k.role)
 
-  -- the journal goes on to j, of which the pass has seen all
+  -- the journal continues to j, of which the pass has seen all
   goes_on : (j : List Line) (ws : List ℕ) → AllMade k.maker.waiters k.maker.notifiers j → IsSound j → ((r : Role) (seen : List Line) → v.role ≢ r → Saw r seen k.journal → Saw r seen j) → length ws ≡ 2 → slice_index ws 0 ≡ count_of j → slice_index ws 1 ≡ inside j → Ruled (let z : State ℕ View = record { words = ws; homes = s.homes; views = set s.views id (seeing j v) } in z)
   goes_on j ws made sound more wide count in' =
       let told : (i : ℕ) (u : View) → get_elem? (set s.views id (seeing j v)) i ≡ some u → IsMade k.maker.waiters k.maker.notifiers u.role × Saw u.role u.seen j = λ i u p. ⊎_elim

@@ -68,7 +68,7 @@ new_waiting table w = record { table = table; number = w; entered = false; key =
 abbrev pub new_notifying : TableId → ℕ → Notifying
 new_notifying table m = record { table = table; number = m; seen = [] }
 
--- so many of them, in order
+-- this many of them, in order
 abbrev pub AreNewWaiters : TableId → ℕ → List Waiting → Type 0
 AreNewWaiters table n ws = (length ws ≡ n) × ((w : ℕ) → w < n → get_elem? ws w ≡ some (new_waiting table w))
 

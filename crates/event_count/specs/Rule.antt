@@ -10,7 +10,7 @@ use Rattle.event_count.specs.declared.view.Role.TheVariants.{Maker, Waiter, Noti
 use Rattle.event_count.specs.declared.view.View.{View}
 use Rattle.event_count.specs.Journal.{owner, is_inside, inside, count_of, IsSound, Saw, Stayed}
 
--- the pass was made, of so many waiters and notifiers
+-- the pass was made, of this many waiters and notifiers
 abbrev pub IsMade : ℕ → ℕ → Role → Type 0
 IsMade n m Maker = Unit {0}
 IsMade n m (Waiter w) = w < n

@@ -108,7 +108,7 @@ fn notify_by<L: Ledger>(
 }
 
 impl EventCount {
-    /// An event count, its waiters and its notifiers, each in order. Nobody has entered, and nothing was counted.
+    /// An event count, its waiters and its notifiers, each in order. No thread has entered, and nothing was counted.
     /// `BadShape` with more than 1,024 waiters, or notifiers.
     pub fn new(
         alloc: Global,

@@ -1,5 +1,5 @@
 //! An event count (Reed and Kanodia 1979, "Synchronization with Eventcounts and Sequencers"): threads that sleep until there was a
-//! notice, and threads that give notice, which costs one load where nobody may sleep.
+//! notice, and threads that give notice, which costs one load where no thread may sleep.
 #![tactic(auto)]
 
 pub mod error;

@@ -17,7 +17,7 @@ pub enum Line {
     Entered(u64),
     /// The waiter of this number left.
     Left(u64),
-    /// The notifier of this number looked, and nobody had entered.
+    /// The notifier of this number looked, and no thread had entered.
     Quiet(u64),
     /// The notifier of this number looked, and somebody had entered, so that it owes a notice.
     Found(u64),

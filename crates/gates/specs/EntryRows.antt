@@ -94,7 +94,7 @@ waiting r = waiting_in (map slot_of r.cells)
 abbrev pub stand_in : Slot
 stand_in = record { traits = record { invalid = false; link_timeout = false; drains = false; links_soft = false; links_hard = false }; last = true; reply = Some false }
 
--- so many of them
+-- this many of them
 abbrev pub stand_ins : ℕ → List Slot
 stand_ins n = replicate n stand_in
 

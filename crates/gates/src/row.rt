@@ -47,7 +47,7 @@ impl Model for Row {
 }
 
 impl Row {
-    /// An empty row of so many cells. Its room is made here, once.
+    /// An empty row of this many cells. Its room is made here, once.
     pub fn new(alloc: Global, cells: u32) -> Result<Row, Memory>
         requires least { 1 ≤ cells }
         requires most { cells ≤ 1024 }

@@ -40,7 +40,7 @@ count_of _ = 0
 abbrev pub IsDue : List Event → Req → Type 0
 IsDue h r = (d : ℕ) × (phase h r ≡ armed d) × (d ≤ clock_of h)
 
--- an armed TIMEOUT counts completions, and so many later requests of its ring have been answered. What is counted is this profile
+-- an armed TIMEOUT counts completions, and this many later requests of its ring have been answered. What is counted is this profile
 pub record IsCounted (h : List Event) (r : Req) : Type 0 where
   pub is_armed : (d : ℕ) × (phase h r ≡ armed d)
   pub entry : Entry

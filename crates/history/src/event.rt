@@ -60,7 +60,7 @@ pub enum Event {
     Sever(Req),
     /// The completion was taken, and the buffer with it.
     Reap(Req),
-    /// Nothing goes on from here.
+    /// Nothing continues from here.
     Shut,
     /// A request that was never answered is answered with -125 (ECANCELED), after `Shut`.
     Cut(Req),

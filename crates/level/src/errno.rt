@@ -3,5 +3,5 @@
 /// The end is closed (EBADF).
 pub const EBADF: i32 = 9;
 
-/// Nobody can read what is written (EPIPE).
+/// No one can read what is written (EPIPE).
 pub const EPIPE: i32 = 32;

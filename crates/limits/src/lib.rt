@@ -47,7 +47,7 @@ pub fn is_capacity(bytes: u32) -> bool
     0 < bytes && bytes <= CAPACITY
 }
 
-/// Whether a ring may have so many cells: a power of two up to 1,024.
+/// Whether a ring may have this many cells: a power of two up to 1,024.
 pub fn is_cells(cells: u32) -> bool
     ensures { result ≡ is_cells cells }
 {

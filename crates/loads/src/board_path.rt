@@ -35,7 +35,7 @@ impl Model for BoardPath {
     ghost invariant = { λ p. IsOf p.board p.poller × IsOf p.board p.submitter × IfSome p.worker (λ w. IsOf p.board w) };
 }
 
-/// A new board of one ring with so many cells and one worker, and its passes.
+/// A new board of one ring with this many cells and one worker, and its passes.
 fn board_of(alloc: Global, cells: u32) -> Result<(Board, Poller, Vec<Submitter>, Vec<Worker>)>
     ensures poller { IfOk result (λ t. IsOf t.0 t.1) }
     ensures submitters { IfOk result (λ t. All (λ p. IsOf t.0 p) t.2.items) }
@@ -85,7 +85,7 @@ fn work(board: &Board, worker: Worker, req: Req) -> Worker
 }
 
 impl BoardPath {
-    /// A new board whose ring has so many cells.
+    /// A new board whose ring has this many cells.
     pub fn new(alloc: Global, cells: u32) -> Result<BoardPath> {
         let (board, poller, mut submitters, mut workers) = board_of(alloc, cells)?;
         let Some(submitter) = submitters.pop() else {
@@ -119,7 +119,7 @@ impl BoardPath {
         }
     }
 
-    /// So many NOPs. How many nanoseconds that took.
+    /// This many NOPs. How many nanoseconds that took.
     pub fn round<R: Clock>(&mut self, rt: &R, units: u64) -> Result<u64> {
         let start = Instant::now(rt)?;
         for number in 0..units {

@@ -44,7 +44,7 @@ impl<L: Load> Driver<L> {
         (client, load)
     }
 
-    /// Carries a round of the load out, of so many units or turns.
+    /// Carries a round of the load out, of this many units or turns.
     pub fn serve<R: Wait + Clock>(&mut self, rt: &R, count: u64) -> Result<()>
         ensures { self.new.client.board ≡ self.old.client.board }
     {

@@ -18,7 +18,7 @@ use std::sync::Wait;
 use std::thread::{Threads, join_mut};
 use std::time::{Clock, Duration, Instant};
 
-/// A clock that goes on by one tick in so many turns of the poller, or with 0 stands still.
+/// A clock that advances by one tick every this many turns of the poller, or with 0 stands still.
 #[derive(Clone, Copy)]
 pub(crate) struct Ticking {
     every: u32,

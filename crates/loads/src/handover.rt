@@ -17,7 +17,7 @@ struct Lane {
     is_blocking: bool,
 }
 
-/// Hand-overs with so many numbers on their way, there and back.
+/// Hand-overs with this many numbers on their way, there and back.
 #[derive(Drop)]
 pub(crate) struct HandOver {
     depth: u64,
@@ -69,7 +69,7 @@ impl HandOver {
         Ok(HandOver { depth, there, back })
     }
 
-    /// Hands so many numbers out, and keeps the depth of them on their way, until all are back.
+    /// Hands this many numbers out, and keeps the depth of them on their way, until all are back.
     fn hand_out<R: Wait>(&self, rt: &R, count: u64) {
         for number in 0..count.saturating_add(self.depth) {
             if self.depth <= number {
@@ -81,14 +81,14 @@ impl HandOver {
         }
     }
 
-    /// Hands so many numbers back, in the order in which they come.
+    /// Hands this many numbers back, in the order in which they come.
     fn hand_back<R: Wait>(&self, rt: &R, count: u64) {
         for _number in 0..count {
             self.back.put(rt, self.there.next(rt));
         }
     }
 
-    /// So many hand-overs and back. How many nanoseconds that took.
+    /// This many hand-overs and back. How many nanoseconds that took.
     pub fn round<R: Threads + Wait + Sync + Clock>(&self, rt: &R, units: u64) -> Result<u64> {
         let start = Instant::now(rt)?;
         join(

@@ -45,7 +45,7 @@ pub(crate) trait Load: Drop {
     /// That of the client of a ring that has submitted nothing yet.
     fn new(alloc: Global, ring: u16, setup: &Setup) -> Result<Self, AllocError>;
 
-    /// Begins a round: of so many units, or of so many turns.
+    /// Begins a round: of this many units, or of this many turns.
     fn begin(&mut self, count: u64);
 
     /// Whether its round is over, as asked once in each turn.

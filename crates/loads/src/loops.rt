@@ -91,7 +91,7 @@ impl Rounds {
         sum
     }
 
-    /// Goes so many times round. How many nanoseconds that took.
+    /// Goes round this many times. How many nanoseconds that took.
     pub fn round<R: Clock>(&self, rt: &R, units: u64) -> Result<u64> {
         let start = Instant::now(rt)?;
         let sum = match self.kind {

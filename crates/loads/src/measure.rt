@@ -61,7 +61,7 @@ struct Bench<'a> {
 }
 
 impl<'a> Bench<'a> {
-    /// How many units a round has: so many, or a few where they are only tried.
+    /// How many units a round has: this many, or a few where they are only tried.
     fn units(&self, units: u64) -> u64 {
         if self.is_timed { units } else { 320 }
     }
@@ -80,7 +80,7 @@ impl<'a> Bench<'a> {
         Ok(unit)
     }
 
-    /// The time of a round of so many hand-overs.
+    /// The time of a round of this many hand-overs.
     fn passed<R: Machine>(&self, rt: &R, lanes: &HandOver, units: u64) -> Result<u64> {
         Ok(median!(self.is_timed, lanes.round(rt, units)))
     }
@@ -119,7 +119,7 @@ impl<'a> Bench<'a> {
         Ok(())
     }
 
-    /// The time of a round of so many units.
+    /// The time of a round of this many units.
     fn rounds<R: Machine>(&self, rt: &R, fleet: &mut Fleet<Units>, units: u64) -> Result<u64> {
         Ok(median!(self.is_timed, round_of(rt, fleet, units)))
     }
@@ -196,7 +196,7 @@ fn idle_round<R: Machine + CpuClock>(rt: &R, fleet: &mut Fleet<Units>) -> Result
 }
 
 /// A byte there and back between the clients of a runtime with three workers. One of them waits for it, since the other one sleeps first
-/// for so many seconds, and so do so many READs. Prints the processor time of all threads meanwhile.
+/// for this many seconds, and so do this many READs. Prints the processor time of all threads meanwhile.
 pub(crate) fn run_idle<R: Machine + CpuClock>(rt: &R, seconds: u64, reads: u64) -> Result<()> {
     let mut setup = Setup::new(Kind::Echo, 1, 3, 2);
     (setup.cells, setup.reads) = (1_024, reads.min(1_000) as u32);

@@ -124,7 +124,7 @@ impl Mix {
 }
 
 impl Load for Mix {
-    /// The load of the client of a ring of so many cells that has submitted nothing yet. One seed in four is that of a wild one.
+    /// The load of the client of a ring of this many cells that has submitted nothing yet. One seed in four is that of a wild one.
     fn new(alloc: Global, ring: u16, setup: &Setup) -> Result<Mix, AllocError> {
         let Kind::Mixed { seed } = setup.kind else {
             return Err(AllocError);

@@ -8,7 +8,7 @@ use crate::setup::{Kind, Setup};
 use anyhow::Result;
 use std::time::{Duration, Instant};
 
-/// Prints what was counted, if so many tenths of so many seconds have gone by since the start. The tenths to look for next.
+/// Prints what was counted, if this many tenths of this many seconds have passed since the start. The tenths to look for next.
 fn look<R: Machine>(
     rt: &R,
     start: Instant,
@@ -29,7 +29,7 @@ fn look<R: Machine>(
     Ok(part.saturating_add(1))
 }
 
-/// Keeps the runtime under the load for so many seconds.
+/// Keeps the runtime under the load for this many seconds.
 fn go_on<R: Machine>(rt: &R, fleet: &mut Fleet<Mix>, seconds: u64) -> Result<()> {
     let (start, mut part) = (Instant::now(rt)?, 1);
     for _ in rt.forever() {
@@ -42,7 +42,7 @@ fn go_on<R: Machine>(rt: &R, fleet: &mut Fleet<Mix>, seconds: u64) -> Result<()>
     Ok(())
 }
 
-/// Puts one runtime, with three workers, under the load for so many seconds, and ends it. Prints ten times what was counted, and at the end.
+/// Puts one runtime, with three workers, under the load for this many seconds, and ends it. Prints ten times what was counted, and at the end.
 pub(crate) fn run_mixed<R: Machine>(rt: &R, seconds: u64) -> Result<()> {
     let mut setup = Setup::new(Kind::Mixed { seed: 2_026 }, 0, 3, 2);
     (setup.cells, setup.idle, setup.every) = (256, 8, 4);
@@ -75,7 +75,7 @@ fn soak_one<R: Machine>(rt: &R, draws: &mut Draws) -> Result<Counts> {
     Ok(counts)
 }
 
-/// Puts runtimes, drawn from this seed, under the load for so many seconds, and ends each at a random moment.
+/// Puts runtimes, drawn from this seed, under the load for this many seconds, and ends each at a random moment.
 pub(crate) fn run_soak<R: Machine>(rt: &R, seconds: u64, seed: u64) -> Result<()> {
     let (mut draws, mut counts, mut runtimes) = (Draws::new(seed), Counts::default(), 0u64);
     let (start, mut part) = (Instant::now(rt)?, 1);

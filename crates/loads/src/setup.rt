@@ -31,13 +31,13 @@ pub(crate) struct Setup {
     pub pause: Duration,
     /// The places of a completion ring, if these aren't twice the cells.
     pub posts: Option<u32>,
-    /// After how many idle turns in a row the poller sleeps, and in how many turns the clock goes on by one tick; with 0 it stands still.
+    /// After how many idle turns in a row the poller sleeps, and in how many turns the clock advances by one tick; with 0 it stands still.
     pub idle: u32,
     pub every: u32,
 }
 
 impl Setup {
-    /// So many clients at work, one or two.
+    /// This many clients at work, one or two.
     pub fn new(kind: Kind, depth: u32, workers: u32, clients: u16) -> Setup {
         Setup {
             kind,

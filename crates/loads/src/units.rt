@@ -1,4 +1,4 @@
-//! The loads that are measured, unit by unit: so many units are kept in flight.
+//! The loads that are measured, unit by unit: this many units are kept in flight.
 use crate::flow::{are_bytes, buffer_of};
 use crate::load::{Batch, Fault, Load};
 use crate::replies::LATE;
@@ -32,7 +32,7 @@ pub(crate) struct Units {
     unsent: Option<Batch>,
 }
 
-/// So many READs that are left to wait, on pipes that nothing is written to.
+/// This many READs that are left to wait, on pipes that nothing is written to.
 fn reads_left(alloc: Global, count: u32) -> Result<Batch, AllocError> {
     let mut batch = Vec::new(alloc);
     for number in 0..count {
@@ -110,7 +110,7 @@ impl Load for Units {
         })
     }
 
-    /// Begins a round of so many units, which the clients at work share, but for those of a byte, in which both take part. Where bytes are
+    /// Begins a round of this many units, which the clients at work share, but for those of a byte, in which both take part. Where bytes are
     /// given back, the last unit of a round has no READ, and is the first of the next one, which has no WRITE.
     fn begin(&mut self, count: u64) {
         let more = u64::from(self.setup.kind == Kind::Echo && self.ring == 1);

@@ -12,14 +12,14 @@ use std::marker::Model;
 /// Entries with their buffers.
 pub(crate) type Batch = Vec<(Sqe, Vec<u8>)>;
 
-/// Adds an entry with a buffer of so many bytes.
+/// Adds an entry with a buffer of this many bytes.
 pub(crate) fn add(alloc: Global, batch: &mut Batch, sqe: Sqe, bytes: usize) {
     if let Ok(buffer) = Vec::from_elem(alloc, b'.', bytes) {
         let _ = batch.push((sqe, buffer));
     }
 }
 
-/// So many rings of so many cells, a pipe of 16 bytes, and so many workers.
+/// This many rings of this many cells, a pipe of 16 bytes, and this many workers.
 pub(crate) fn shape_of(alloc: Global, rings: usize, cells: u32, workers: u32) -> Option<Shape>
     ensures { IfSome result (λ s. length s.rings.items ≡ rings) }
 {

@@ -3,7 +3,7 @@ use history::Req;
 use std::alloc::{AllocError, Global};
 use std::fmt::Display;
 
-/// The size of the allocation that `.ci/refusals` takes for a mark. No call asks for just so many bytes.
+/// The size of the allocation that `.ci/refusals` takes for a mark. No call asks for exactly that many bytes.
 const MARK: usize = 77_777;
 
 /// More bytes than a call tells of what it gave.

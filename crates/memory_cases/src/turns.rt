@@ -309,7 +309,7 @@ const FURTHER: &str = ", what was done stands; again";
 /// IOSQE_IO_LINK.
 const LINK: u8 = 4;
 
-/// A clock that goes on to this tick, once.
+/// A clock that advances to this tick, once.
 #[derive(Drop)]
 struct Once {
     to: Option<u32>,
@@ -344,7 +344,7 @@ fn waiting(alloc: Global) -> Batch {
     batch
 }
 
-/// A turn of the poller, and so many of the worker.
+/// A turn of the poller, and this many of the worker.
 fn turn<R: Wait>(rt: &R, stage: &mut Stage, count: u32, gave: &mut Shown) {
     stage.poll(rt, &mut NoClock, gave);
     for _turn in 0..count {
@@ -352,7 +352,7 @@ fn turn<R: Wait>(rt: &R, stage: &mut Stage, count: u32, gave: &mut Shown) {
     }
 }
 
-/// The poller meets a timer among the requests that wait for another, and goes on with these in their order, when a WRITE serves both
+/// The poller meets a timer among the requests that wait for another, and continues with these in their order, when a WRITE serves both
 /// READs: what the turns answer.
 fn turns<R: Wait>(rt: &R, lines: &mut Lines, mut stage: Stage) -> Stage {
     stage.submit(waiting(lines.alloc));

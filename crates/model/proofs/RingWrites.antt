@@ -1,4 +1,4 @@
--- What is kept goes on agreeing with the history when the requests of one ring are written.
+-- What is kept continues agreeing with the history when the requests of one ring are written.
 use Rattle.model.proofs.Common.{Agrees, Bool, Carries, Decided, Event, IfOk, List, Machine, MayCome, MayFollow, OnErr, Req, Request, Result, Seen, Setup, Some, [], ap, arith, bool_cases, clock_of, common_steps, cond, eqb-true, false, flow, get_or, is_step, length, length-set, put, put_at, refl, seen, seen_of, set, set-get_or, setup_of, shut_for, slice_get, slice_get_within, submits, subst, sym, true, was_shut, ℕ, ⊎_elim, ◌<◌, ◌==◌, ◌∙◌, ◌∷◌, ◌≡◌, ◌≤◌}
 use Rattle.model.proofs.RequestLists.{slice_get-set}
 use Rattle.model.proofs.RequestWrites.{put_length}

@@ -1,4 +1,4 @@
--- Every event of the requests of one ring: whether it may come, and that what is kept goes on agreeing.
+-- Every event of the requests of one ring: whether it may come, and that what is kept continues agreeing.
 use Rattle.model.proofs.Common.{Agrees, AimsAt, Arm, Begin, Bool, Count, Cut, Event, Expire, Fire, FireMiss, List, Machine, MayCome, MayFollow, Miss, Park, Reap, Req, Request, Settle, Sever, Take, [], and_left, and_right, ap, arith, common_steps, eq-eqb, eqb-true, false, is_all, is_step, may_fire, may_fire_miss, may_miss, may_step, may_take, put_step, refl, ring_of, setup_of, shut_for, subst, sym, true, true≢false, ℕ, ◌&&◌, ◌==◌, ◌∙◌, ◌∷◌, ◌≡◌}
 use Rattle.model.proofs.RingWrites.{row, put_row, same_setup, IsDecided, decides}
 use Rattle.model.proofs.SingleEvents.{begin_may, may_begin_is, begin_kept, park_may, may_park_is, park_kept, sever_may, may_sever_is, sever_kept, reap_may, may_reap_is, reap_kept, cut_may, may_cut_is, cut_kept}

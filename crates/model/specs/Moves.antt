@@ -104,7 +104,7 @@ put_reaped xs k = put xs k (λ x. record x { stage = taken_out x.stage })
 abbrev pub may_cut : List Request → ℕ → Bool
 may_cut xs k = pending_of (slice_get xs k)
 
--- the deadline is so many ticks from now
+-- the deadline is this many ticks from now
 abbrev pub falls_due : ℕ → ℕ → Option ℕ → Bool
 falls_due clock d None = false
 falls_due clock d (Some n) = d == clock + n
@@ -127,7 +127,7 @@ is_done x = not (is_pending x.stage)
 abbrev pub later_answered : List Request → ℕ → ℕ
 later_answered xs k = length (filter is_done (drop (suc k) xs))
 
--- it counts completions, and so many are enough
+-- it counts completions, and this many are enough
 abbrev pub counts_up : ℕ → Option Entry → Bool
 counts_up n None = false
 counts_up n (Some e) = nat_lt 0 (count_of e.op) && nat_le (count_of e.op) n

@@ -90,7 +90,7 @@ macro_rules! fits_buffer {
     ([any_buffer] ($len:ident)) => { true };
 }
 
-/// A buffer of so many bytes fits the operation.
+/// A buffer of this many bytes fits the operation.
 fn fits(op: Op, len: usize) -> bool
     ensures { IsTrue result ↔ FitsOp op len }
 {

@@ -22,7 +22,7 @@ pub ends_here : {X Y : Type 0} (G : ℕ → List X → List Y) (xs : List X) (i 
     → old ++ G i (drop i xs) ≡ total → old ≡ total
 ends_here G xs i old total le is so_far = ends G xs i old old [] total le is so_far (sym (append-nil old))
 
--- so many times
+-- this many times
 pub counts : {Y : Type 0} (H : ℕ → ℕ → List Y) (n i : ℕ) (old new text total : List Y) → i < n → ((k : ℕ) → H i (suc k) ≡ text ++ H (i + 1) k)
     → old ++ H i (n - i) ≡ total → new ≡ old ++ text → new ++ H (i + 1) (n - (i + 1)) ≡ total
 counts {Y} H n i old new text total lt step so_far wrote =

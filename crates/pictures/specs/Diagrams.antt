@@ -6,7 +6,7 @@ use Rattle.pictures.specs.declared.marks.Lane.TheVariants.{Ring}
 use Rattle.pictures.specs.Marks.{Shown, marks, workers_in}
 use Rattle.pictures.specs.Pictures.{column_of, last_column, name_of}
 
--- so many participants from this one on, named L0, L1 ..
+-- this many participants from this one on, named L0, L1 ..
 abbrev pub participants : ℕ → ℕ → ℕ → ℕ → List ℕ
 participants rings workers i zero = []
 participants rings workers i (suc n) =

@@ -42,7 +42,7 @@ longest rings workers i (m ∷ ms) = max (if column_of rings workers m.0 == i th
 abbrev pub width_of : ℕ → ℕ → List Shown → ℕ → ℕ
 width_of rings workers ms i = max (length (name_of rings workers i)) (longest rings workers i ms)
 
--- the widths of so many columns from this one on
+-- the widths of this many columns from this one on
 abbrev pub widths_from : ℕ → ℕ → List Shown → ℕ → ℕ → List ℕ
 widths_from rings workers ms i zero = []
 widths_from rings workers ms i (suc n) = width_of rings workers ms i ∷ widths_from rings workers ms (i + 1) n

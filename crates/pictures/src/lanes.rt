@@ -20,7 +20,7 @@ pub(crate) struct Columns {
 }
 
 impl Columns {
-    /// The columns of so many rings and workers. More than there can be count as want of memory.
+    /// The columns of this many rings and workers. More than there can be count as want of memory.
     pub fn new(rings: usize, workers: usize) -> Result<Columns, AllocError>
         ensures { IfOk result (λ columns. (columns.rings ≡ rings) × (columns.workers ≡ workers)) }
     {
@@ -76,7 +76,7 @@ fn short(text: &[u8]) -> &[u8]
     &text[..text.len().saturating_sub(1)]
 }
 
-/// Writes a byte so many times.
+/// Writes a byte this many times.
 fn push_times(out: &mut Vec<u8>, byte: u8, count: usize) -> Result<(), AllocError>
     ensures { OnOk result (out.new.items ≡ out.old.items ++ replicate count byte) }
 {

@@ -91,7 +91,7 @@ pub fn timeout(ticks: u64, flags: u32) -> Sqe
     timeout_count(ticks, 0, flags)
 }
 
-/// io_uring_prep_timeout(3) with a count: it may reply 0 once so many later requests of its ring have replied, and -62 (ETIME)
+/// io_uring_prep_timeout(3) with a count: it may reply 0 once this many later requests of its ring have replied, and -62 (ETIME)
 /// stays possible, too. `count` is at most 1023, and 0 counts nothing.
 pub fn timeout_count(ticks: u64, count: u64, flags: u32) -> Sqe
     ensures says { Says (layout (record { opcode = 11; fd = no_fd; off = count; addr = ticks; len = 1; word = flags; splice_fd_in = pos 0 }) 0 0) result }

@@ -21,7 +21,7 @@ pub record Room : Type 0 where
   pub spans : ℕ
   pub left : ℕ
 
--- room for the spans of so many places and passes, and for all their requests
+-- room for the spans of this many places and passes, and for all their requests
 pub record IsRoom (places passes : ℕ) (r : Room) : Type 0 where
   pub rests : passes ≤ r.rests
   pub spans : places ≤ r.spans

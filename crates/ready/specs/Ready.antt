@@ -42,7 +42,7 @@ all_put ps = flat_map (λ p. p.put) ps
 abbrev pub all_taken : List Moves → List Req
 all_taken ps = flat_map (λ p. p.taken) ps
 
--- how many requests so many places and so many passes hold at most
+-- how many requests this many places and this many passes hold at most
 abbrev pub room_of : ℕ → ℕ → ℕ
 room_of places passes = most * (places + passes)
 

@@ -2,7 +2,7 @@
 use Rattle.std.specs.Prelude.{ℕ, zero, suc, List, [], ◌∷◌, Option, Some, None}
 use Rattle.history.specs.declared.req.Req.{Req}
 
--- so many requests of the ring, from the number k on
+-- this many requests of the ring, from the number k on
 abbrev pub run_from : ℕ → ℕ → ℕ → List Req
 run_from ring k zero = []
 run_from ring k (suc n) = record { ring = ring; k = k } ∷ run_from ring (suc k) n

@@ -23,7 +23,7 @@ type Line = RuledArrayQueue<Span, Account, Law>;
 
 type Seat = Pass<Span, Account>;
 
-/// Requests that may begin, in so many places. A place has one request, or a span of requests. A pass belongs to the queue that
+/// Requests that may begin, in this many places. A place has one request, or a span of requests. A pass belongs to the queue that
 /// made it.
 #[derive(Drop)]
 pub struct ReadyQueue {
@@ -40,7 +40,7 @@ impl Model for ReadyQueue {
 }
 
 impl ReadyQueue {
-    /// An empty queue of so many places, and its passes. Its room is made here, once.
+    /// An empty queue of this many places, and its passes. Its room is made here, once.
     pub fn new(
         alloc: Global,
         places: u32,
@@ -131,7 +131,7 @@ impl ReadyQueue {
         })
     }
 
-    /// The room that `gather_in` needs for so many passes.
+    /// The room that `gather_in` needs for this many passes.
     pub fn make_room(&self, alloc: Global, passes: usize) -> Result<GatherRoom, Memory>
         ensures { IfOk result (IsRoom self.now.places passes) }
     {

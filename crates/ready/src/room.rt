@@ -29,7 +29,7 @@ impl Model for GatherRoom {
 }
 
 impl GatherRoom {
-    /// Room for the spans of so many places and passes.
+    /// Room for the spans of this many places and passes.
     pub(crate) fn new(alloc: Global, places: usize, passes: usize) -> Result<GatherRoom, Memory>
         ensures { IfOk result (IsRoom places passes) }
     {

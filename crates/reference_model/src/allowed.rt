@@ -217,7 +217,7 @@ impl<'a> List<'a> {
             && u64::from(deadline) == u64::from(self.now()) + u64::from(ticks)
     }
 
-    /// It is an armed TIMEOUT with a count, and so many later requests of its ring have an answer.
+    /// It is an armed TIMEOUT with a count, and this many later requests of its ring have an answer.
     fn has_counted(self, r: Req) -> bool {
         match self.op(r) {
             Some(Op::Timeout { count, .. }) => {

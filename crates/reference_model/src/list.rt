@@ -14,7 +14,7 @@ pub const LINK: u8 = 4;
 
 pub const HARD_LINK: u8 = 8;
 
-/// The events so far, the oldest first, of so many rings, and of pipes with these capacities.
+/// The events so far, the oldest first, of this many rings, and of pipes with these capacities.
 #[derive(Clone, Copy)]
 pub struct List<'a> {
     pub rings: u16,

@@ -99,7 +99,7 @@ impl<'a> List<'a> {
         into.saturating_sub(out)
     }
 
-    /// The first so many events.
+    /// The first of the events, this many of them.
     fn first_events(self, n: usize) -> List<'a> {
         List {
             rings: self.rings,

@@ -8,7 +8,7 @@ use Rattle.ring_c.specs.declared.inside.Inside.{Inside}
 use Rattle.ring_c.specs.declared.inside.Inside.TheVariants.{Client, Hand, Desk}
 use Rattle.ring_c.specs.Sides.{ClientFacts, DeskFacts, HandFacts}
 
--- the shape has rings of so many cells, pipes of so many bytes, and so many workers
+-- the shape has rings of this many cells, pipes of this many bytes, and this many workers
 abbrev pub IsShapeOf : List ℕ → List ℕ → ℕ → Shape → Type 0
 IsShapeOf rings pipes workers s = (counts s.rings.items ≡ rings) × (s.pipes.items ≡ pipes) × (s.workers ≡ workers)
 

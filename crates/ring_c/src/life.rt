@@ -12,7 +12,7 @@ use crate::reports::{line_bytes_in, line_in};
 use crate::results::{Counted, Line};
 use std::alloc::Global;
 
-/// Opens a board of rings with so many cells, pipes with so many bytes, and so many workers. The handle leads to its poller, at
+/// Opens a board of rings with this many cells, pipes with this many bytes, and this many workers. The handle leads to its poller, at
 /// which all other passes are.
 #[unsafe(no_mangle)]
 pub extern "C" fn ring_c_new(

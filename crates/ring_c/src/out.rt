@@ -8,7 +8,7 @@ use history::Req;
 use std::alloc::{AllocError, Global};
 use std::marker::Model;
 
-/// The requests that a turn moved to the workers, and those that it answered, with room for so many of each, and whether it did
+/// The requests that a turn moved to the workers, and those that it answered, with room for this many of each, and whether it did
 /// something.
 #[derive(Drop)]
 pub(crate) struct Out {
@@ -31,7 +31,7 @@ impl Model for Out {
 }
 
 impl Out {
-    /// A list for each, with room for so many requests.
+    /// A list for each, with room for this many requests.
     pub(crate) fn new(alloc: Global, places: usize) -> Result<Out, AllocError>
         ensures { IfOk result (λ o. (o.ready ≡ []) × (o.answered ≡ [])) }
     {
@@ -46,7 +46,7 @@ impl Out {
         })
     }
 
-    /// Empties the lists for a turn that tells at most so many of each.
+    /// Empties the lists for a turn that tells at most this many of each.
     pub(crate) fn begin(&mut self, ready_most: usize, answered_most: usize)
         ensures { (self.new.ready ≡ []) × (self.new.answered ≡ []) × (self.new.ready_most ≤ ready_most) × (self.new.answered_most ≤ answered_most) }
     {

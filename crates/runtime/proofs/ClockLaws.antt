@@ -52,7 +52,7 @@ stays_all : (F : List Event → Type 0) → ((s : Setup) (e : Event) (h : List E
 stays_all F stays s [] h legal none f = f
 stays_all F stays s (e ∷ more) h legal none f = stays s e (more ++ h) legal (omega (arith, none)) (stays_all F stays s more h legal.1 (omega (arith, none)) f)
 
--- a clock goes along where its poller goes on and doesn't set it
+-- a clock goes along where its poller continues and doesn't set it
 pub stays_along : (F : List Event → Type 0) → ((s : Setup) (e : Event) (h : List Event) → Legal s (e ∷ h) → counts_tick e ≡ 0 → F h → F (e ∷ h)) → (b : Facts) (p q : Pass) (es : List Event) → GoesOn b p es q → IsPollers p → ticked es ≡ 0 → F (seen_of p) → F (seen_of q)
 stays_along F stays b p q es x role none f =
     let seen : seen_of q ≡ events_of x.later ++ seen_of p = ap events_of x.seen_is ∙ events_before x.later p.view.seen in

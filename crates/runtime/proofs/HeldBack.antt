@@ -38,7 +38,7 @@ timer_stays b p q es x r m y =
     let k = lasts_on b p q es x (λ h. IsPlacedAs h r is_timer true) r (kind_lasts (setup_of b.layout) r is_timer true) (born_on b p q es x r waits m.0 (λ e. cc)) m.3 in
     true≢false (sym k.2 ∙ (ap (λ (e : Entry). is_timer e.op) (one_entry (seen_of q) r k.0 y.0 k.1 y.1) ∙ y.2))
 
--- who waits, list by list, as the poller goes on
+-- who waits, list by list, as the poller continues
 pub have_waited_then : (p m q : Pass) (xs ys zs : List Req) → Begins m.view.seen p.view.seen → Begins q.view.seen m.view.seen → HaveWaited p m xs ys → HaveWaited m q ys zs → HaveWaited p q xs zs
 have_waited_then p m q xs ys zs x y a b r is = ⊎_elim
     (λ w. ⊎_elim (λ v. inl v) (λ o. inr (once_later p m q (λ h. IsHeldBack h r) y o)) (a r w))

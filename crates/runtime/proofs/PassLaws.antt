@@ -1,4 +1,4 @@
--- What stays as the poller's pass goes on, and what was true at some time in between.
+-- What stays as the poller's pass continues, and what was true at some time in between.
 use Rattle.history.specs.Chains.{IsPlaced, is_timeout}
 use Rattle.history.specs.Legal.{Legal, Setup, IsPlacedAs}
 use Rattle.history.proofs.Growth.{MayChange, may_change, changed, unchanged, replied_stays}
@@ -6,7 +6,7 @@ use Rattle.history.proofs.Requests.{bool_cases}
 use Rattle.steps.proofs.JournalGrowth.{Lasting, counted_in, kind_lasts, lasts, legal_before, placed_lasts, replied_later}
 use Rattle.runtime.proofs.Common.{Begins, Bool, Cares, Count, Cut, Event, Expire, Facts, Fire, GoesOn, IsCared, IsDone, IsNoted, IsPlain, IsReplied, IsSet, Line, List, LooksAfter, Once, Pass, Phase, Req, Settle, Take, [], ap, append_assoc, armed, becomes, concerns, cond, events_of, false, freed, frees, inl, inr, phase, refl, seen_of, setup_of, submits, subst, sym, true, unborn, ℕ, ⊎_elim, ◌++◌, ◌+◌, ◌<◌, ◌∙◌, ◌∷◌, ◌≡◌, ◌≢◌, ◌⊎◌}
 
--- ---- what stays as the poller's pass goes on
+-- ---- what stays as the poller's pass continues
 
 -- a timer is armed until it replies
 ends_armed : (h : List Event) (e : Event) (d : ℕ) → MayChange (armed d) e → IsReplied (becomes h e (armed d))

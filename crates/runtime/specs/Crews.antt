@@ -30,7 +30,7 @@ abbrev pub IsPollThread : {C : Type 0} → (C → List Event → Type 0) → Sha
 IsPollThread follows s (Runs thread) = arc_value thread.promise.0.value ≡ s
 IsPollThread follows s (Ended side) = IsPollSide follows s side
 
--- how many threads serve so many workers: an only worker is served by the poller's
+-- how many threads serve this many workers: an only worker is served by the poller's
 abbrev pub threads_for : ℕ → ℕ
 threads_for n = cond (n == 1) 1 (n + 1)
 
@@ -44,7 +44,7 @@ abbrev pub own_share : Option WorkSide → ℕ
 own_share None = 0
 own_share (Some own) = own.desk.ready.share
 
--- the poller's side has so many shares of the ready queue, and its own worker is there as this one is, with as many
+-- the poller's side has this many shares of the ready queue, and its own worker is there as this one is, with as many
 abbrev pub HasShares : {C : Type 0} → ℕ → Option WorkSide → PollSide C → Type 0
 HasShares share own side = (side.desk.ready.share ≡ share) × ((own_in side.own ≡ own_in own) × (own_share side.own ≡ own_share own))
 
@@ -79,7 +79,7 @@ pub record HasThreads {C : Type 0} (follows : C → List Event → Type 0) (s : 
   pub room : length workers + (owns_of poller + length ended) ≤ capacity
   pub shares : share_of poller + (shares_of workers + shares_in ended) ≡ all_shares
 
--- room for the end of a board with so many workers, and of a ready queue with so many places, so that nothing is left that could fail
+-- room for the end of a board with this many workers, and of a ready queue with this many places, so that nothing is left that could fail
 pub record HasRoomFor (places count : ℕ) (r : EndRoom) : Type 0 where
   pub none : (r.workers.items ≡ []) × (r.passes.items ≡ [])
   pub workers : count ≤ vec_capacity r.workers

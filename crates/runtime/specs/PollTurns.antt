@@ -130,7 +130,7 @@ pub record IsPollTurn (b : Facts) (q : QueueFacts) (old new : Desk) (after : Pla
 abbrev pub IsStopped : Desk → Places → Type 0
 IsStopped d o = (d.kept ≢ []) ⊎ (d.places ≤ length o.items)
 
--- so many requests are all that were submitted by this tail, or by one that tells the poller to end, too
+-- this many requests are all that were submitted by this tail, or by one that tells the poller to end, too
 abbrev pub ReachesTo : ℕ → ℕ → Type 0
 ReachesTo tail n = (tail ≤ n) ⊎ ((9223372036854775808 ≤ tail) × (tail ≤ n + 9223372036854775808))
 

@@ -49,7 +49,7 @@ impl Backlog {
         }
     }
 
-    /// From here on a span gets so many numbers at most.
+    /// From here on a span gets this many numbers at most.
     pub fn limit_to(&mut self, limit: u8)
         ensures { self.new ≡ self.old }
     {

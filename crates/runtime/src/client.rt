@@ -181,7 +181,7 @@ impl Client {
         self.take(rt)
     }
 
-    /// Submits a batch as `submit_batch` does, and then waits until so many completions can be taken without waiting, of those that
+    /// Submits a batch as `submit_batch` does, and then waits until this many completions can be taken without waiting, of those that
     /// weren't taken before, too (io_uring_submit_and_wait(3)). More than the board's widest ring has cells can't be there at once, so
     /// it waits for no more than that. Where fewer requests of its ring will be answered it sleeps for good.
     pub fn submit_and_wait<R: Wait>(
@@ -205,7 +205,7 @@ impl Client {
         Ok(req)
     }
 
-    /// Waits until it holds so many posts, or as many as the widest ring has cells.
+    /// Waits until it holds this many posts, or as many as the widest ring has cells.
     fn await_held<R: Wait>(&mut self, rt: &R, count: usize)
         ensures same { (self.new.board ≡ self.old.board) × (self.new.ring ≡ self.old.ring) × (self.new.tail ≡ self.old.tail) × (self.new.publishes ≡ self.old.publishes) × (self.new.submitter ≡ self.old.submitter) }
         ensures found { (found : List Req) × (self.new.posts ≡ self.old.posts ++ found) }

@@ -39,7 +39,7 @@ impl Model for Held {
 }
 
 impl Held {
-    /// No posts, of this ring. The room for so many is made here, once.
+    /// No posts, of this ring. The room for this many is made here, once.
     pub(crate) fn empty(alloc: Global, ring: u16, places: usize) -> Result<Held, AllocError>
         ensures { IfOk result (λ h. (h.ring ≡ ring) × (h.posts ≡ []) × (h.places ≡ places)) }
     {
@@ -66,7 +66,7 @@ impl Held {
         self.posts.len()
     }
 
-    /// Takes posts out of the completion ring of its ring, the oldest first, as long as there is one, until it holds so many.
+    /// Takes posts out of the completion ring of its ring, the oldest first, as long as there is one, until it holds that many.
     fn gather(&mut self, ring: &mut CompletionRing, most: usize)
         requires own { ring.old.owner ≡ self.old.ring }
         requires places { most ≤ self.old.places }
@@ -84,7 +84,7 @@ impl Held {
         }
     }
 
-    /// Looks into the completion ring of its ring, where more was posted there than was taken, until it holds so many.
+    /// Looks into the completion ring of its ring, where more was posted there than was taken, until it holds that many.
     fn look_into<R: Wait>(&mut self, rt: &R, posts: &PostLocks, most: usize)
         requires places { most ≤ self.old.places }
         ensures same { (self.new.ring ≡ self.old.ring) × (self.new.places ≡ self.old.places) }

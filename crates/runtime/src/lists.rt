@@ -29,7 +29,7 @@ pub(crate) struct Lists {
 }
 
 impl Lists {
-    /// Empty lists, for these rings, which have so many cells in all.
+    /// Empty lists, for these rings, which have this many cells in all.
     pub fn new(alloc: Global, rings: Vec<Intake>, places: usize) -> Result<Lists, Memory>
         ensures rings { IfOk result (λ l. l.rings ≡ rings) }
         ensures places { IfOk result (λ l. l.waiting.places ≡ places) }

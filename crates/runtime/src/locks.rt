@@ -104,7 +104,7 @@ impl PostLocks {
         }
     }
 
-    /// Notes that the completion ring of this ring was given so many more posts.
+    /// Notes that the completion ring of this ring was given this many more posts.
     pub(crate) fn note(&self, ring: u16, posts: u64) {
         if let Some(lock) = self.locks.get(usize::from(ring)) {
             lock.posted.fetch_add(posts, Ordering::SeqCst);

@@ -92,7 +92,7 @@ fn callers_of(
     Ok(callers)
 }
 
-/// An event count with so many listeners, and so many who call them.
+/// An event count with this many listeners, and this many who call them.
 fn event_count_of(
     alloc: Global,
     listeners: u16,
@@ -156,7 +156,7 @@ fn pair_of(alloc: Global) -> Result<(Listener, Caller), Memory> {
     Ok((listener, caller))
 }
 
-/// The completion ring of each ring, under its lock: of so many posts as it says, else of twice as many as it has cells. And the
+/// The completion ring of each ring, under its lock: of this many posts as it says, else of twice as many as it has cells. And the
 /// listener of each ring's client.
 fn posts_of(alloc: Global, rings: &[RingShape]) -> Result<(PostLocks, Vec<Listener>), Memory>
     requires { length rings.now ≤ 16 }

@@ -135,7 +135,7 @@ impl PollDesk {
         &self.state.ready
     }
 
-    /// How many cells its board has: so many places the outbox of a turn needs.
+    /// How many cells its board has: as many places as the outbox of a turn needs.
     /// More answers can't come. No clause counts over all cells, so the contract of a turn still speaks of a full outbox.
     pub fn places(&self) -> usize
         ensures { result ≡ self.now.places }
@@ -269,7 +269,7 @@ fn came_to(board: &Board, state: &mut PollState, lists: &mut Lists) -> Turn
 /// One turn of the poller. It reads all tails, asks the clock, goes over the requests that wait for others and those that are new,
 /// and over the timers that are due and those whose targets have replied. What it answered is in the outbox. It is `Still` or `Idle`
 /// only where it did nothing and keeps no number, and `Idle` only where no request that it has taken up waits or is armed. After `Memory` what was done
-/// stands, and the next turn goes on. Nothing but what the clock tells sets the board's clock.
+/// stands, and the next turn continues. Nothing but what the clock tells sets the board's clock.
 pub fn poll_turn<R: Wait, C: Clock>(
     route: Route<'_, R>,
     bell: &Bell,

@@ -49,8 +49,8 @@ impl PollState {
         self.moved = true;
     }
 
-    /// Limits how many of so many requests go to a worker together. Each worker gets its part, and two parts where there are enough.
-    /// So a few requests are shared out one by one. With one worker all that a span holds go together: nobody else could run them.
+    /// Limits how many of this many requests go to a worker together. Each worker gets its part, and two parts where there are enough.
+    /// So a few requests are shared out one by one. With one worker all that a span holds go together: no other worker could run them.
     pub fn limit_for(&mut self, requests: u64)
         ensures { self.new ≡ self.old }
     {

@@ -18,7 +18,7 @@ pub(crate) struct Rooms {
     pub end: EndRoom,
 }
 
-/// Room for so many workers.
+/// Room for this many workers.
 pub(crate) fn rooms_of(
     alloc: Global,
     queue: &ReadyQueue,

@@ -9,7 +9,7 @@ use controls::{Clock, Open};
 use std::sync::Wait;
 
 /// In how many rounds in a row the workers may do something while the poller does nothing. In each a worker makes `RUNS` turns, so that a
-/// board's cells don't need so many: then no memory is found.
+/// board's cells don't need that many: then no memory is found.
 const ROUNDS: u32 = 65_536;
 
 /// Serves each of these workers until it finds nothing to do, or for `RUNS` turns. Whether the last turn of each was idle.

@@ -1,5 +1,5 @@
 //! How a worker that has nothing to do sleeps, and a client that waits. Whoever sleeps has read the count of its event count, and has
-//! looked once more since then: a notice of what came after the look changes the count, and nobody sleeps while it has changed.
+//! looked once more since then: a notice of what came after the look changes the count, and no thread sleeps while it has changed.
 ghost use Rattle.std.specs.Prelude.{◌≡◌, ◌⊎◌, ◌≤◌, ◌<◌, ◌+◌, ◌++◌, false, List, length, IfOk, IfErr};
 ghost use Rattle.board.specs.ShapeLimits.{widest};
 ghost use Rattle.event_count.specs.Passes.{HasEntered, HasLeft, HasNoticed, HasWoken, IsNotifierOf, IsWaiterOf};
@@ -229,7 +229,7 @@ fn look_for<R: Wait>(
     }
 }
 
-/// Takes posts out of the completion ring until the client holds so many, and sleeps as long as there are too few.
+/// Takes posts out of the completion ring until the client holds that many, and sleeps as long as there are too few.
 pub(crate) fn await_posts<R: Wait>(
     rt: &R,
     posts: &PostLocks,

@@ -173,7 +173,7 @@ impl<C: Clock> Runtime<C> {
 }
 
 impl<C: Clock> Stopped<C> {
-    /// Whether no one but so many clients shares the board with it.
+    /// Whether no one but this many clients shares the board with it.
     /// No clause says when: the number of owners is in no contract.
     pub(crate) fn is_shared_by(&self, clients: usize) -> bool {
         Arc::strong_count(&self.shared) - 1 == clients

@@ -42,7 +42,7 @@ const RUNS: u32 = 64;
 /// Fewer are posted with that one's: they cost one lock, and the client comes once for all.
 const STAYING: usize = 15;
 
-/// Between a turn that did nothing and the next, after so many such turns in a row, of which so many are made at once. A turn is long
+/// Between a turn that did nothing and the next, after `still` such turns in a row. The first `spins` are made at once: a turn is long
 /// enough that a pause of the processor after it would only let a request wait.
 fn pause(still: u32, spins: u32) {
     if spins <= still {

@@ -1,4 +1,4 @@
--- An actor that has carried lines out goes on: others' events leave it where it is, and its own take it one step further.
+-- An actor that has carried lines out continues: others' events leave it where it is, and its own take it one step further.
 use Rattle.std.proofs.lemmas.Bool.Decides.{nat_tests}
 use Rattle.history.specs.declared.event.Event.TheVariants as event
 use Rattle.history.specs.Ticked.{counts_tick, ticked}

@@ -194,7 +194,7 @@ module _ (c : Script) (s : Setup) (i k : ℕ) (v : Vec Act) (acts left : List Ac
       let new = hands_next c s i v acts left places n (nth i (k + n)) y.0 (n + 1 == length places.items) (events_of (later ++ seen)) at lines (omega arith) y.1 refl refl (subst (λ (z : Event). Legal s (z ∷ events_of (later ++ seen))) is l) old in
       subst (λ (z : Event). HasCarried c i acts (suc n) (z ∷ events_of (later ++ seen))) (sym is) (subst (λ (z : ℕ). HasCarried c i acts z (Event.Submit (nth i (k + n)) y.0.sqe y.0.buffer.items (n + 1 == length places.items) ∷ events_of (later ++ seen))) (let z : n + 1 ≡ suc n = omega arith in z) new)
 
-  -- so many of the entries are handed in by these lines
+  -- this many of the entries are handed in by these lines
   handed_by : (later : List Line) (m n : ℕ) → n + m ≡ length xs → Legal s (events_of (later ++ seen)) → own_of (Submitter i) later ≡ drop m S → HasCarried c i acts 0 (events_of seen) → HasCarried c i acts n (events_of (later ++ seen))
   handed_by [] m n sum l q carried = let le = drop_none S m (sym q) in let long = submits_long i k xs in subst (λ (z : ℕ). HasCarried c i acts z (events_of seen)) (let z : 0 ≡ n = omega arith in z) carried
   handed_by (Did e ∷ later) m n sum l q carried = ⊎_elim

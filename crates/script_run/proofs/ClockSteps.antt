@@ -214,7 +214,7 @@ pub not_stuck : (b : Bool) (lines : List ClockLine) (n : ℕ) (l : ClockLine) �
 not_stuck true lines n l e = absurd (none-some l e)
 not_stuck false lines n l e = refl
 
--- it goes on to a line that was never tried
+-- it continues to a line that was never tried
 pub at_next : (lines : List ClockLine) (next tries most : ℕ) (is_stuck : Bool) (h : List Event) → tries ≡ 0 → is_stuck ≡ false → IsAlong lines next h → IsAtLine lines next tries most is_stuck h
 at_next lines next tries most is_stuck h none goes along = record {
   along = along;

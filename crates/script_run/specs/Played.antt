@@ -12,7 +12,7 @@ use Rattle.script.specs.Carried.{HasTimed}
 use Rattle.script_run.specs.declared.actor.Actor.{Actor}
 use Rattle.script_run.specs.Actors.{client_of, taken_by, IsNewActor, IsCarried}
 
--- a new runtime of the shape that the script asks for, with so many workers
+-- a new runtime of the shape that the script asks for, with this many workers
 pub record IsStartedFor (c : Script) (workers : ℕ) (b : Facts) (clients : List ClientFacts) : Type 0 where
   pub shape : Shape
   pub started : IsStarted shape b clients

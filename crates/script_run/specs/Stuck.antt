@@ -31,7 +31,7 @@ pub record IsStuckRing (c : Script) (turns : ℕ) (b : Facts) (label : List ℕ)
 
 -- ---- the clock's line
 
--- at so many times, one after another, the line was not done
+-- at this many times, one after another, the line was not done
 abbrev pub WasUndone : Script → Act → ℕ → List Event → Type 0
 WasUndone c act zero h = Unit {0}
 WasUndone c act (suc n) h = (later : List Event) × (seen : List Event) × (h ≡ later ++ seen) × (is_done c seen act ≡ false) × WasUndone c act n seen
@@ -61,7 +61,7 @@ pub record IsStuckClock (c : Script) (turns : ℕ) (b : Facts) (label : List ℕ
 abbrev pub IsStuckOn : Script → ℕ → Facts → List ℕ → Type 0
 IsStuckOn c turns b label = IsStuckRing c turns b label ⊎ IsStuckClock c turns b label
 
--- a run with so many workers, and so many tries of a line, is stuck with this label
+-- a run with this many workers, and this many tries of a line, is stuck with this label
 pub record IsStuck (c : Script) (workers turns : ℕ) (label : List ℕ) : Type 0 where
   pub board : Facts
   pub clients : List ClientFacts

@@ -53,7 +53,7 @@ pub record TriesInVain (c : Script) (act : Act) (old new : Actor) : Type 0 where
   pub tried : IsInVain c act first last
   pub after : Went last new
 
--- so many
+-- this many
 abbrev pub TriedInVain : Script → Act → ℕ → Actor → Actor → Type 0
 TriedInVain c act zero old new = Went old new
 TriedInVain c act (suc n) old new = (h : Actor) × TriedInVain c act n old h × TriesInVain c act h new

@@ -15,7 +15,7 @@ pub(crate) struct Barrier {
 }
 
 impl Barrier {
-    /// Of a run with so many rings, and such a clock.
+    /// Of a run with this many rings, and such a clock.
     pub fn new(rings: u64, clock: Arc<Progress>) -> Barrier {
         Barrier {
             rings,

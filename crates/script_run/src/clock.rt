@@ -23,7 +23,7 @@ pub(crate) struct Progress {
 }
 
 impl Progress {
-    /// Of a clock with so many lines.
+    /// Of a clock with this many lines.
     fn new(lines: u64) -> Progress {
         Progress {
             lines,
@@ -183,7 +183,7 @@ impl LineClock {
         }
     }
 
-    /// Goes on to the line after this one.
+    /// Continues to the line after this one.
     fn go_on(&mut self)
         requires { self.old.next < length self.old.lines.items }
         ensures same { (self.new.lines ≡ self.old.lines) × (self.new.most ≡ self.old.most) × (self.new.is_stuck ≡ self.old.is_stuck) }
@@ -203,7 +203,7 @@ impl LineClock {
         self.progress.left.store(0, Ordering::SeqCst);
     }
 
-    /// Goes on where the line is done. Else it counts a try that was in vain.
+    /// Continues where the line is done. Else it counts a try that was in vain.
     fn count(&mut self, is_done: bool)
         requires { self.old.next < length self.old.lines.items }
         ensures small { self.old.most < 2 ^ 32 }

@@ -22,7 +22,7 @@ pub(crate) struct Pulse {
 }
 
 impl Pulse {
-    /// Of a run with so many rings, and such a clock.
+    /// Of a run with this many rings, and such a clock.
     pub fn new(rings: u64, clock: Arc<Progress>) -> Pulse {
         Pulse {
             rings,
@@ -44,7 +44,7 @@ impl Pulse {
         self.ended.fetch_add(1, Ordering::SeqCst);
     }
 
-    /// The mark of a run whose workers are done with so many numbers. It grows whenever a thread, the clock or a worker goes on.
+    /// The mark of a run whose workers are done with this many numbers. It grows whenever a thread, the clock or a worker continues.
     pub fn mark(&self, done: u64) -> u64 {
         let moves = self.moves.load(Ordering::SeqCst);
         done.wrapping_add(moves).wrapping_add(self.clock.behind())

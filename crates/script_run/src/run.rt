@@ -29,7 +29,7 @@ use std::thread::Threads;
 /// After how many idle turns in a row the poller sleeps.
 const IDLE: u32 = 64;
 
-/// Carries a script out on a runtime with so many workers, and gives its table. Each ring has a thread of its own, and the clock's
+/// Carries a script out on a runtime with this many workers, and gives its table. Each ring has a thread of its own, and the clock's
 /// lines are carried out by the poller's, one try a turn. A `wait` or `armed` line, and a `submit` line whose cells aren't all free,
 /// is tried at most `turns` times: between two tries a ring's thread sleeps for a while, and not at all once nothing can go on. After
 /// the last line the run ends once the runtime is at rest; what has no reply by then is cut off with -125 (ECANCELED). Each thread of the
@@ -90,7 +90,7 @@ struct Room {
     clients: Vec<Client>,
 }
 
-/// Room for the actors and clients of so many rings.
+/// Room for the actors and clients of this many rings.
 fn room_of(alloc: Global, rings: usize) -> Result<Room, AllocError>
     ensures actors { IfOk result (λ r. (r.actors.items ≡ []) × (rings ≤ vec_capacity r.actors)) }
     ensures clients { IfOk result (λ r. (r.clients.items ≡ []) × (rings ≤ vec_capacity r.clients)) }

@@ -22,7 +22,7 @@ const PAUSES: u32 = 512;
 /// How long the first nap is, in microseconds. Each of the next ones is twice as long as that before it, up to sixteen times as long.
 const NAP: u64 = 64;
 
-/// How many naps a thread takes while nothing goes on. A run whose workers don't come to rest by then has no memory, say.
+/// How many naps a thread takes while nothing continues. A run whose workers don't come to rest by then has no memory, say.
 const NAPS: u32 = 1024;
 
 /// After how many looks that found nothing that can go on a ring takes the run to be at rest, where all others do.
@@ -34,7 +34,7 @@ fn mark_of(stage: &Stage<'_>, actor: &Actor) -> Option<u64> {
     Some(stage.barrier.pulse.mark(done))
 }
 
-/// What a thread has seen of a run that doesn't go on: the run's mark, how many turns the poller had made when it saw that first, and
+/// What a thread has seen of a run that doesn't advance: the run's mark, how many turns the poller had made when it saw that first, and
 /// how many looks since then found nothing that can go on; how many tries and naps it has made; and whether the run is at rest.
 #[derive(Drop)]
 pub(crate) struct Watch {
@@ -47,7 +47,7 @@ pub(crate) struct Watch {
 }
 
 impl Watch {
-    /// Of a run that goes on.
+    /// Of a run that continues.
     pub fn new() -> Watch {
         Watch {
             mark: None,

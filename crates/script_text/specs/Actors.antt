@@ -28,7 +28,7 @@ ring_named (Some n) rings = if nat_lt n rings then Actor.Ring n else Actor.Stran
 abbrev pub named_actor : List ℕ → ℕ → Actor
 named_actor word rings = if is_same word (codes "clock") then Actor.Clock else ring_named (number_in word) rings
 
--- the actor is no ring but one of so many
+-- the actor is no ring but one of this many
 abbrev pub IsKnown : Actor → ℕ → Type 0
 IsKnown (Actor.Ring ring) rings = ring < rings
 IsKnown _ rings = Unit {0}

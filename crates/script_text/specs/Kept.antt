@@ -15,7 +15,7 @@ IsOfScript _ = Unit {0}
 abbrev pub KeepsFault : Option Fault → Option Fault → Type 0
 KeepsFault old new = (IsSome old → IsSome new) × (IfSome old IsOfScript → IfSome new IsOfScript)
 
--- what may be told of so many lines: a fault of a script, at one of them, which are numbered from 1
+-- what may be told of this many lines: a fault of a script, at one of them, which are numbered from 1
 abbrev pub IsFaultAmong : ℕ → ScriptFault → Type 0
 IsFaultAmong lines (Line line fault) = (1 ≤ line) × (line ≤ lines) × IsOfScript fault
 IsFaultAmong lines Memory = Unit {0}

@@ -9,17 +9,17 @@ use text::number_of;
 /// Who does what a line says.
 #[derive(Clone, Copy)]
 pub enum Actor {
-    /// Nobody yet: the lines before the first `on`.
+    /// No actor yet: the lines before the first `on`.
     Start,
     /// A declared ring.
     Ring(usize),
     Clock,
-    /// Nobody that is declared.
+    /// No actor that is declared.
     Stranger,
 }
 
 impl Actor {
-    /// The actor that the word after `on` names, where so many rings are declared.
+    /// The actor that the word after `on` names, where this many rings are declared.
     pub fn named(word: &[u8], rings: usize) -> Actor
         ensures { result ≡ named_actor word.now rings }
     {
@@ -32,7 +32,7 @@ impl Actor {
         }
     }
 
-    /// Whose lines come after an `on` line of these words, where so many rings are declared.
+    /// Whose lines come after an `on` line of these words, where this many rings are declared.
     pub fn after_on(self, words: &[&[u8]], rings: usize) -> Actor
         ensures { result ≡ actor_with (Some On) (texts words.now) rings self }
     {

@@ -106,7 +106,7 @@ module _ (slots id : ℕ) (me : Seated) where
     mine : stands_for v.role (holders q p) ≡ true
     mine = subst (λ (z : Role). stands_for z (holders q p) ≡ true) (sym busy) (same_itself q)
 
-    -- a view that goes on as the worker of q
+    -- a view that continues as the worker of q
     goes_on : (s : St) (r : Ruled L s) → There slots id me s → (l : Line) → events_of (l ∷ r.past) ≡ events_of r.past → (t : List Step) → IsTick v (l ∷ r.past) t → SeatOk L (l ∷ r.past) (seeing v v.role (l ∷ r.past) t)
     goes_on s r at l same t tick = seat_sees L (l ∷ r.past) t v v.role refl
         (λ c is. (let b = busy_now slots id me s r at c is in (b.0, ap (λ h. phase h c) same ∙ b.1))) (λ c is. absurd (true≢false (sym is ∙ ap (λ (z : Role). is_leaving z c) busy))) (λ c is. absurd (let y = sym busy ∙ is in cc)) (made_with L s r id v l t at tick)
@@ -170,7 +170,7 @@ module _ (slots id : ℕ) (me : Seated) where
       pub free_allows : (M : Layout) → Allows (Ruled M) slots id me (pipe_at p) (λ _. 0) (λ _. pipe_returned laid (step slots (pipe_at p) 0 0 none) me 0)
       free_allows M = shaped slots id me M (pipe_at p) (λ _. 0) (λ _. pipe_returned laid (step slots (pipe_at p) 0 0 none) me 0) (λ z. (let y = sym busy ∙ z in cc)) free_does
 
-  -- FREE, after a reply: as it gives the pipe p back the seat goes on to the role `next`, which owns no line that the seat doesn't own now, and none about p
+  -- FREE, after a reply: as it gives the pipe p back the seat continues to the role `next`, which owns no line that the seat doesn't own now, and none about p
   record GivesUp (q : Req) (p : ℕ) (next : Role) : Type 0 where
     works : stands_for v.role (holders q p) ≡ true
     off : stands_for next (holders q p) ≡ false

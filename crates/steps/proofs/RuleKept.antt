@@ -13,7 +13,7 @@ heard_more l j xs n a x h = let s = a x h in record { later = l ∷ s.later; is 
 pub heard_begin : (j : List Line) (xs : List Heard) → AllSaw j xs → AllBegin j xs
 heard_begin j xs a x h = let s = a x h in (s.later, s.is)
 
--- from this role the seat goes on to that one by the line: who is gone stays gone, and it is no line of theirs
+-- from this role the seat continues to that one by the line: who is gone stays gone, and it is no line of theirs
 abbrev pub LeavesGone : Role → Line → Role → Type 0
 LeavesGone a l b = (gone : Role) → IsGone gone a → (owns gone l ≡ false) × (apart b gone ≡ true)
 
@@ -34,7 +34,7 @@ parts_set [] id v w e = absurd (some-ne-none v (sym e))
 parts_set (x ∷ vs) zero v w e = let same : x.parts ≡ v.parts = ap (λ (z : View). z.parts) (some-injective x v e) in omega arith
 parts_set (x ∷ vs) (suc id) v w e = let i = parts_set vs id v w e in omega arith
 
--- who ran or held goes on so where the one seat that changes keeps its part in it
+-- who ran or held continues so where the one seat that changes keeps its part in it
 pub run_set : (vs : List View) (id : ℕ) (v w : View) (q : Req) → get_elem? vs id ≡ some v → (v.role ≡ Busy q → w.role ≡ Busy q) → IsRunBy vs q → IsRunBy (set vs id w) q
 run_set vs id v w q there same by = dite (ℕ_discrete by.0 id)
     (λ e. let at : get_elem? vs id ≡ some by.1 = subst (λ (z : ℕ). get_elem? vs z ≡ some by.1) e by.2 in let one : by.1 ≡ v = some-injective by.1 v (sym at ∙ there) in
@@ -56,7 +56,7 @@ lent_set vs id v w q there same by = dite (ℕ_discrete by.0 id)
 abbrev pub IsKnown : List View → List Event → Type 0
 IsKnown vs j = (i : ℕ) × (v : View) × (get_elem? vs i ≡ some v) × (0 < v.parts) × Knows v j
 
--- who knew all still does where the one seat that changes goes on knowing it
+-- who knew all still does where the one seat that changes continues knowing it
 pub known_set : (vs : List View) (id : ℕ) (v w : View) (j : List Event) → get_elem? vs id ≡ some v → (0 < v.parts → Knows v j → (0 < w.parts) × Knows w j) → IsKnown vs j → IsKnown (set vs id w) j
 known_set vs id v w j there same by = dite (ℕ_discrete by.0 id)
     (λ e. let at : get_elem? vs id ≡ some by.1 = subst (λ (z : ℕ). get_elem? vs z ≡ some by.1) e by.2 in let one : by.1 ≡ v = some-injective by.1 v (sym at ∙ there) in

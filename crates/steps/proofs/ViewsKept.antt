@@ -26,7 +26,7 @@ submission_after v w l role x r data' p k =
     let born : r.k < submits (events_of v.seen) r.ring = submitted_in S v.seen r _ (legal_before S (l ∷ x.saw.later) v.seen legal) k.1 in
     (k.0, subst (λ (j : List Line). submission (events_of j) r ≡ Some (record { entry = p.sqe; bytes = k.0; last = p.last })) (sym seen) (lasts S (λ h. submission h r ≡ Some (record { entry = p.sqe; bytes = k.0; last = p.last })) r (submission_lasts S r _) (l ∷ x.saw.later) v.seen legal born k.1), k.2)
 
--- who has a slot goes on as the submitter of its ring
+-- who has a slot continues as the submitter of its ring
 pub lender_can : (v : View) (r : Req) → v.role ≡ Lending r → stands_for v.role (rings r.ring) ≡ true
 lender_can v r is = ap (λ (z : Role). stands_for z (rings r.ring)) is ∙ eq-eqb r.ring r.ring refl
 

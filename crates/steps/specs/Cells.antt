@@ -47,7 +47,7 @@ pipe_at p = p + 1
 abbrev pub slot_at : ℕ → ℕ
 slot_at x = x + 64
 
--- how many words and slots a table of so many cells has: it ends where the line and the slot of one more cell would be
+-- how many words and slots a table of this many cells has: it ends where the line and the slot of one more cell would be
 abbrev pub words_of : ℕ → ℕ
 words_of n = claim_at n
 
@@ -152,7 +152,7 @@ pub record CellOk (K : List ℕ) (j : List Line) (x word : ℕ) (home : Home) : 
 abbrev pub stands : List Line → ℕ → Flow × List Req
 stands j p = (flow (events_of j) p, lying j p)
 
--- of these pipes, and of boards with so many cells, the slot of p has the pipe that is told, and those that are told to lie there, with a place for each cell; there is none where the layout has none
+-- of these pipes, and of boards with this many cells, the slot of p has the pipe that is told, and those that are told to lie there, with a place for each cell; there is none where the layout has none
 abbrev pub PipeIn : List ℕ → ℕ → ℕ → Option Thing → Flow × List Req → Type 0
 PipeIn caps cells p None w = length caps < suc p
 PipeIn caps cells p (Some (Full x)) w = ⊥

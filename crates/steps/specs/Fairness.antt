@@ -1,4 +1,4 @@
--- What each line of the journal asks for, beside that its history is legal: who may change a pipe, who is moved to Ready, when a cell goes on to its next request, and what stands in its notes.
+-- What each line of the journal asks for, beside that its history is legal: who may change a pipe, who is moved to Ready, when a cell continues to its next request, and what stands in its notes.
 use Rattle.std.specs.Prelude.{◌≡◌, ◌⊎◌, ℕ, ◌+◌, ◌*◌, ◌%◌, ◌<◌, Bool, true, false, ℤ, List, [], ◌∷◌, Some, None}
 use Rattle.claim.specs.declared.word.TheConstants.{GENERATIONS}
 use Rattle.entry.specs.Entry.{Entry, fails}
@@ -75,7 +75,7 @@ abbrev pub MayLay : List ℕ → List Event → Req → ℕ → Laid → Type 0
 MayLay caps h r p NoRequest = Unit {0}
 MayLay caps h r p _ = HasWaited caps r p h
 
--- only who has a pipe of the board changes it or gives it back, and nobody takes it from him; with it a request is laid down that waits for it; only what waits, is open and is a worker's to run is moved to Ready, and once; a cell goes on only when it is free, and its notes go on with it; a request is reaped by who has its slot; a cancel that took a request, or found one running, is not put back
+-- only who has a pipe of the board changes it or gives it back, and nobody takes it from him; with it a request is laid down that waits for it; only what waits, is open and is a worker's to run is moved to Ready, and once; a cell continues only when it is free, and its notes go on with it; a request is reaped by who has its slot; a cancel that took a request, or found one running, is not put back
 abbrev pub Fair : Layout → List Line → Line → Type 0
 Fair L j (Did (Submit r e bytes last)) = IsFree L.cells (events_of j) r × AreNoted L.cells j r e bytes last
 Fair L j (Did (Reply r res data')) = (p : ℕ) → is_pipe L.caps p ≡ true → uses_at_in (placed (events_of j) r) p ≡ true → holder j p ≡ Some r

@@ -92,7 +92,7 @@ abbrev pub NoneOf : Role → List Line → Type 0
 NoneOf role [] = Unit {0}
 NoneOf role (l ∷ j) = (owns role l ≡ false) × NoneOf role j
 
--- j begins with `seen` and goes on without this role's own lines
+-- j begins with `seen` and continues without this role's own lines
 pub record Saw (role : Role) (seen j : List Line) : Type 0 where
   pub later : List Line
   pub is : j ≡ later ++ seen
@@ -114,7 +114,7 @@ IsHeard x (y ∷ ys) = (y ≡ x) ⊎ IsHeard x ys
 abbrev pub AllBegin : List Line → List Heard → Type 0
 AllBegin j xs = (x : Heard) → IsHeard x xs → Begins j x.seen
 
--- and goes on without own lines of those whose it was
+-- and continues without own lines of those whose it was
 abbrev pub AllSaw : List Line → List Heard → Type 0
 AllSaw j xs = (x : Heard) → IsHeard x xs → Saw x.role x.seen j
 

@@ -24,7 +24,7 @@ pub const COUNT: usize = 2;
 /// The word of the clock.
 pub const CLOCK_WORD: usize = 0;
 
-/// How many words a table of so many cells has.
+/// How many words a table of this many cells has.
 pub fn words_of(cells: usize) -> usize
     requires { cells ≤ 16384 }
     ensures { result ≡ words_of cells }
@@ -32,7 +32,7 @@ pub fn words_of(cells: usize) -> usize
     LINE * cells + FIRST_LINE
 }
 
-/// How many slots a table of so many cells has.
+/// How many slots a table of this many cells has.
 pub fn slots_of(cells: usize) -> usize
     requires { cells ≤ 16384 }
     ensures { result ≡ slots_of cells }

@@ -46,7 +46,7 @@ fn new_slots(alloc: Global, caps: &[u32], rows: usize) -> Result<Vec<Option<Thin
     Ok(slots)
 }
 
-/// An empty pipe of this capacity, for which nobody waits, with room for so many that will.
+/// An empty pipe of this capacity, for which no request waits, with room for this many that will.
 fn new_pipe(alloc: Global, cap: u32, rows: usize) -> Result<WaitedPipe, AllocError>
     requires cap { IsCapacity cap }
     requires rows { rows ≤ 16384 }

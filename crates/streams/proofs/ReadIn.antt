@@ -25,7 +25,7 @@ Consumes-at_last a b c bytes before read = Consumes-further a b c bytes [] bytes
 pub is_all_at_end : (a b : Option (List ℕ)) (bytes : List ℕ) → Consumes a b bytes → IsAtEnd b → IfSome a (λ there. bytes ≡ there)
 is_all_at_end a b bytes taken end = Consumes-whole a b bytes (λ there. bytes ≡ there) taken end refl
 
--- a read failed after so many
+-- a read failed after this many
 pub failed_after : {S : Type 0} (gives : S → Result ℕ Error → List ℕ → S → Type 0) (n : ℕ) (a : S) (had : List ℕ) (b c : S) (fault : InputFault)
     → TookBy gives n a had b → IsOfRead gives b c fault → FailedToRead gives a c fault
 failed_after gives n a had b c (Input e) took told = (n, had, b, took, told)

@@ -10,7 +10,7 @@ use Rattle.streams.specs.declared.fault.OutputFault.TheVariants.{Output, WriteZe
 
 -- ---- tries that a signal interrupted
 
--- so many tries in a row, each interrupted (EINTR)
+-- this many tries in a row, each interrupted (EINTR)
 abbrev pub Interrupts : {S : Type 0} → (S → Error → S → Type 0) → ℕ → S → S → Type 0
 Interrupts fails zero old new = new ≡ old
 Interrupts {S} fails (suc n) old new = (s : S) × (e : Error) × Interrupts fails n old s × (error_kind e ≡ Interrupted) × fails s e new
@@ -46,7 +46,7 @@ pub record WroteOn {S : Type 0} (gives : S → List ℕ → Result ℕ Error →
   pub gave : WriteGave gives left old (Ok count) new
   pub rest_is : rest ≡ drop count left
 
--- so many writes, each of all bytes that were left. These are left then
+-- this many writes, each of all bytes that were left. These are left then
 abbrev pub WroteBy : {S : Type 0} → (S → List ℕ → Result ℕ Error → S → Type 0) → ℕ → List ℕ → S → List ℕ → S → Type 0
 WroteBy gives zero bytes old rest new = (rest ≡ bytes) × (new ≡ old)
 WroteBy {S} gives (suc n) bytes old rest new = (left : List ℕ) × (s : S) × WroteBy gives n bytes old left s × WroteOn gives left s rest new
@@ -88,7 +88,7 @@ pub record TookOn {S : Type 0} (gives : S → Result ℕ Error → List ℕ → 
   pub gave : ReadGave gives old (Ok count) buffer new
   pub bytes_are : bytes ≡ had ++ take count buffer
 
--- so many reads. They gave these bytes
+-- this many reads. They gave these bytes
 abbrev pub TookBy : {S : Type 0} → (S → Result ℕ Error → List ℕ → S → Type 0) → ℕ → S → List ℕ → S → Type 0
 TookBy gives zero old bytes new = (bytes ≡ []) × (new ≡ old)
 TookBy {S} gives (suc n) old bytes new = (had : List ℕ) × (s : S) × TookBy gives n old had s × TookOn gives had s bytes new

@@ -4,7 +4,7 @@ use entry::Sqe;
 use prep::{with_flags, with_user_data};
 use std::alloc::{AllocError, Global};
 
-/// An entry with its flags, its user_data, and its buffer: so many bytes, from `first` on, each greater by one than the one before.
+/// An entry with its flags, its user_data, and its buffer: this many bytes, from `first` on, each greater by one than the one before.
 #[derive(Clone, Copy)]
 pub(crate) struct Entry {
     pub sqe: Sqe,

@@ -72,7 +72,7 @@ fn doze_and_sleep<R: Wait>(rt: &R, bell: &Bell, sleeper: &mut Sleeper, place: &A
     place.store(BACK, Ordering::SeqCst);
 }
 
-/// Whether the sleeper's thread comes to a place in so many turns of this one.
+/// Whether the sleeper's thread comes to a place within this many turns of this one.
 fn comes_to(place: &AtomicU32, wanted: u32, turns: u32) -> bool {
     for _turn in 0..turns {
         if place.load(Ordering::SeqCst) == wanted {

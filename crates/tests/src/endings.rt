@@ -10,7 +10,7 @@ use std::thread;
 use std::thread::Threads;
 use std::time::{Clock, Duration};
 
-/// Runtimes with so many workers, each ended while its threads sleep, whether their reports have no line.
+/// Runtimes with this many workers, each ended while its threads sleep, whether their reports have no line.
 fn ends_asleep<R: Threads + Wait + Clock + Copy + Send + 'static>(
     rt: R,
     alloc: Global,
@@ -69,7 +69,7 @@ fn submits_a_chain(pair: &mut Pair) -> Result<(), Fail> {
     Ok(())
 }
 
-/// A runtime with so many workers that is to rest as soon as all is submitted, whether all but the READ of an empty pipe is answered.
+/// A runtime with this many workers that is to rest as soon as all is submitted, whether all but the READ of an empty pipe is answered.
 fn rests<R: Threads + Wait + Copy + Send + 'static>(
     rt: R,
     alloc: Global,

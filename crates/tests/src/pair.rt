@@ -42,7 +42,7 @@ impl Model for Pair {
     ghost invariant = { λ p. (p.zero.board ≡ p.runtime.board) × (p.one.board ≡ p.runtime.board) × ((p.room.items ≡ []) × (2 ≤ vec_capacity p.room)) };
 }
 
-/// Two rings, as many pipes of 16 bytes as a board may have, and so many workers.
+/// Two rings, as many pipes of 16 bytes as a board may have, and this many workers.
 fn shape_of(alloc: Global, workers: u32) -> Result<Shape, AllocError>
     ensures { IfOk result (λ s. length s.rings.items ≡ 2) }
 {
@@ -176,7 +176,7 @@ impl Pair {
         }
     }
 
-    /// Submits the entries to ring 0, and waits until so many completions can be taken.
+    /// Submits the entries to ring 0, and waits until this many completions can be taken.
     pub fn submit_and_wait<R: Wait>(
         &mut self,
         rt: &R,
@@ -190,7 +190,7 @@ impl Pair {
         }
     }
 
-    /// Takes so many completions of ring 0, which are there.
+    /// Takes this many completions of ring 0, which are there.
     pub fn take_now<R: Wait>(&mut self, rt: &R, count: usize) -> Result<String, Fail> {
         taken_now(rt, self.alloc, &mut self.zero, count)
     }

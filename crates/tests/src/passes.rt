@@ -15,7 +15,7 @@ use std::test::Fail;
 /// The bytes of the one pipe.
 const CAPACITY: u32 = 16;
 
-/// The shape of a board with one pipe, one worker, and a ring of so many cells for each of `cells`.
+/// The shape of a board with one pipe, one worker, and a ring of this many cells for each of `cells`.
 pub(crate) fn shape_of(alloc: Global, cells: &[u32]) -> Result<Shape, AllocError> {
     let mut rings = Vec::new(alloc);
     for count in cells {

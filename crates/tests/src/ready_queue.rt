@@ -51,7 +51,7 @@ fn a_full_queue_gives_the_number_back(rt: HostRuntime) -> Result<(), Fail> {
     Ok(())
 }
 
-/// A span of so many requests of ring 0, from number 7 on.
+/// A span of this many requests of ring 0, from number 7 on.
 fn span_of(count: u64) -> Span {
     let mut span = Span::of(nth(7));
     for n in 1..count {

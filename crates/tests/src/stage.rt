@@ -22,7 +22,7 @@ use std::marker::Model;
 use std::sync::Wait;
 use std::test::Fail;
 
-/// A clock that goes on to this tick, once.
+/// A clock that advances to this tick, once.
 #[derive(Drop)]
 struct Once {
     to: Option<u32>,
@@ -42,7 +42,7 @@ impl Clock for Once {
     }
 }
 
-/// A clock that asks for a request, and goes on to the deadline where that is armed.
+/// A clock that asks for a request, and advances to the deadline where that is armed.
 #[derive(Clone, Copy)]
 struct WhenArmed {
     req: Req,
@@ -157,7 +157,7 @@ impl Model for Stage {
 }
 
 impl Stage {
-    /// A new board with a ring of so many cells for each of `cells`, of which there are one or two, and a ready queue of so many
+    /// A new board with a ring of this many cells for each of `cells`, of which there are one or two, and a ready queue of this many
     /// places.
     fn new(alloc: Global, cells: &[u32], places: u32) -> Result<Stage, Fail>
         requires { 0 < places }
@@ -273,7 +273,7 @@ impl Stage {
         Ok(text)
     }
 
-    /// So many poll turns at a clock that doesn't go on: what each came to, where it was the same.
+    /// This many poll turns at a clock that doesn't advance: what each came to, where it was the same.
     fn polled_often<R: Wait>(&mut self, rt: &R, count: u32) -> Result<String, Fail> {
         let text = self.polled(rt, &mut NoClock)?;
         for _n in 1..count {
@@ -346,11 +346,11 @@ impl Stage {
     }
 }
 
-/// Carries the words out on a new board, in order, and tells what each came to. The board has a ring of so many cells for each of
-/// `cells`, of which there are one or two, and a ready queue of so many places.
+/// Carries the words out on a new board, in order, and tells what each came to. The board has a ring of this many cells for each of
+/// `cells`, of which there are one or two, and a ready queue of this many places.
 ///
 /// `f` submits the first batch to ring 0, `s` the second one, and `o` the second one to ring 1. `p3` is three poll turns at a clock
-/// that doesn't go on, `t5` one at a clock that goes on to tick 5, `a1` one at a clock that asks for request 1 of ring 0 and goes on
+/// that doesn't advance, `t5` one at a clock that advances to tick 5, `a1` one at a clock that asks for request 1 of ring 0 and advances
 /// to its deadline where that is armed, `w` a work turn. `l1` looks where request 1 of ring 0 stands, and `r1` takes its completion.
 /// At the end the poller sets the clock on to the tick `last`, by its pass as the turns left it.
 pub(crate) fn play<R: Wait + AllocGlobal>(

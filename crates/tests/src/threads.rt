@@ -14,7 +14,7 @@ use std::thread::Threads;
 /// IOSQE_IO_LINK.
 pub const LINK: u8 = 4;
 
-/// So many rounds, one after another, until one goes wrong: whether none did.
+/// This many rounds, one after another, until one goes wrong: whether none did.
 macro_rules! rounds {
     ($count:expr, $number:ident, $round:expr) => {{
         for $number in 0..$count {
@@ -30,7 +30,7 @@ fn nth(ring: u16, k: u64) -> Req {
     Req { ring, k }
 }
 
-/// An entry with a buffer of so many bytes, from `first` on.
+/// An entry with a buffer of this many bytes, from `first` on.
 pub fn entry(sqe: Sqe, flags: u8, user_data: u64, bytes: u8, first: u8) -> Entry {
     Entry {
         sqe,

@@ -26,7 +26,7 @@ fn plain(sqe: Sqe, flags: u8, user_data: u64) -> Entry {
     filled(sqe, flags, user_data, 0, 0)
 }
 
-/// An entry with a buffer of so many bytes, from `first` on.
+/// An entry with a buffer of this many bytes, from `first` on.
 fn filled(sqe: Sqe, flags: u8, user_data: u64, bytes: u8, first: u8) -> Entry {
     Entry {
         sqe,
@@ -37,7 +37,7 @@ fn filled(sqe: Sqe, flags: u8, user_data: u64, bytes: u8, first: u8) -> Entry {
     }
 }
 
-/// A READ of so many bytes, and a WRITE.
+/// A READ of this many bytes, and a WRITE.
 fn reads(bytes: u8, flags: u8, user_data: u64, first: u8) -> Entry {
     filled(read(0, u32::from(bytes), 0), flags, user_data, bytes, first)
 }
@@ -87,7 +87,7 @@ fn a_number_that_finds_no_place_is_served_later(rt: HostRuntime) -> Result<(), F
     Ok(())
 }
 
-/// Both READs lie with the pipe. The second CLOSE wakes nobody.
+/// Both READs lie with the pipe. The second CLOSE wakes none.
 #[test]
 fn a_close_wakes_all_that_lie_with_the_pipe(rt: HostRuntime) -> Result<(), Fail> {
     let first = [reads(1, 0, 31, 50), reads(2, 0, 32, 60)];

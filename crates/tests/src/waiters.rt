@@ -183,7 +183,7 @@ fn a_notice_between_the_last_look_and_the_sleep_is_not_lost(rt: HostRuntime) -> 
     Ok(())
 }
 
-/// Whether the other threads come so far in so many turns of this one.
+/// Whether the other threads come so far within this many turns of this one.
 fn comes_to(place: &AtomicU32, wanted: u32, turns: u32) -> bool {
     for _turn in 0..turns {
         if place.load(Ordering::SeqCst) == wanted {

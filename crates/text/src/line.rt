@@ -85,7 +85,7 @@ fn reply_at(bytes: &[u8]) -> Option<(i32, &[u8])>
     Some((reply, rest))
 }
 
-/// The data of so many bytes at the front, with the space before them, and what is after them.
+/// The data of this many bytes at the front, with the space before them, and what is after them.
 fn data_at(
     alloc: Global,
     count: usize,

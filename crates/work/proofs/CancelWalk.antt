@@ -9,7 +9,7 @@ use Rattle.work.proofs.CancelSearch.{steps_both}
 abbrev pub in_ring : ℕ → ℕ → Req
 in_ring ring k = record { ring = ring; k = k }
 
--- the cancel c has come to the request k, with at most n steps at each claim word and so many in all; of each cell of one from there on no claim word was visited, nor that of its own cell
+-- the cancel c has come to the request k, with at most n steps at each claim word and this many in all; of each cell of one from there on no claim word was visited, nor that of its own cell
 pub record Walked (n all : ℕ) (v w : View) (c : Req) (first k : ℕ) : Type 0 where
   pub low : first ≤ k
   pub steps : List Step

@@ -146,7 +146,7 @@ begins_on v w l role x = (l ∷ x.saw.later, ap (λ (z : View). z.seen) x.is ∙
 pub begins_both : (a b c : List Line) → Begins b a → Begins c b → Begins c a
 begins_both a b c x y = (y.0 ++ x.0, y.1 ∙ (ap (λ (j : List Line). y.0 ++ j) x.1 ∙ sym (append_assoc y.0 x.0 a)))
 
--- ---- who runs a request goes on to run it
+-- ---- who runs a request continues to run it
 
 module _ (table : TableId) (v w : View) (x g : ℕ) (r : Req) (p : Submission) (pipes : ℕ) (k : RunsIt table v x g r p pipes) where
   kept_by : w.layout ≡ v.layout → w.role ≡ Busy r → w.parts ≡ v.parts → IsSubmission w.seen r [] p → IsPlacedAs (events_of w.seen) r is_timer false → Orderly w.layout w.seen → Legal (setup_of w.layout) (events_of w.seen) → RunsIt table w x g r p pipes

@@ -41,7 +41,7 @@ seen_of p = events_of p.view.seen
 abbrev pub pass_of : Seat (Option Thing) View → Pass
 pass_of s = record { table = s.table_id; view = s.me.0; took = []; woken = [] }
 
--- the pass is of this table, whose rings have so many cells, and which has so many pipes
+-- the pass is of this table, whose rings have this many cells, and which has this many pipes
 pub record IsOn (table : TableId) (K : List ℕ) (pipes : ℕ) (p : Pass) : Type 0 where
   pub table_is : p.table ≡ table
   pub cells_are : p.view.layout.cells ≡ K
@@ -112,7 +112,7 @@ pub record Running : Type 0 where
   pub took : List Req
   pub woken : List Req
 
--- the view of a worker that runs the request r of this cell and generation, whose submission is p, on a board of so many pipes; r is no timer
+-- the view of a worker that runs the request r of this cell and generation, whose submission is p, on a board of this many pipes; r is no timer
 pub record RunsIt (table : TableId) (v : View) (x g : ℕ) (r : Req) (p : Submission) (pipes : ℕ) : Type 0 where
   pub req_is : request_at v.layout.cells x g ≡ r
   pub fits : (x < 16384) × IsCell v.layout.cells x × (claim_at x + 7 < table.words) × (g < GENERATIONS)
@@ -133,7 +133,7 @@ abbrev pub notes_read : Op → ℕ
 notes_read Nop = 2
 notes_read _ = 1
 
--- its table has the cells of the rings that have so many each
+-- its table has the cells of the rings that have this many each
 pub record IsGridOf (table : TableId) (K : List ℕ) (v : View) : Type 0 where
   pub cells_are : v.layout.cells ≡ K
   pub wide : table.words ≡ words_of (total K)

@@ -104,7 +104,7 @@ abbrev pub AreAt : ℕ → List Step → Type 0
 AreAt x [] = Unit {0}
 AreAt x (s ∷ l) = ((s.word ≡ claim_at x) ⊎ ((s.word ≡ facts_at x) ⊎ (s.word ≡ user_at x))) × AreAt x l
 
--- all steps were at the words of the cell x, at most n of them at its claim word, and at most so many in all
+-- all steps were at the words of the cell x, at most n of them at its claim word, and at most this many in all
 pub record StepsIn (v w : View) (x n all : ℕ) : Type 0 where
   pub steps : List Step
   pub is : w.steps ≡ steps ++ v.steps
@@ -123,21 +123,21 @@ abbrev pub WentBy : View → View → Req → List Event → Type 0
 WentBy v w c [] = WentOn v w
 WentBy v w c (e ∷ own) = (m : View) × (n : View) × WentBy v m c own × Extends m (Did e) (Busy c) n × WentOn n w
 
--- at most n steps at each claim word, and at most so many in all
+-- at most n steps at each claim word, and at most this many in all
 pub record FewSteps (v w : View) (n all : ℕ) : Type 0 where
   pub steps : List Step
   pub is : w.steps ≡ steps ++ v.steps
   pub few : (x : ℕ) → steps_at (claim_at x) steps ≤ n
   pub most : length steps ≤ all
 
--- exactly so many steps, and none of them at a claim word
+-- exactly this many steps, and none of them at a claim word
 pub record ReadNotes (v w : View) (count : ℕ) : Type 0 where
   pub steps : List Step
   pub is : w.steps ≡ steps ++ v.steps
   pub bare : (x : ℕ) → steps_at (claim_at x) steps ≡ 0
   pub count_is : length steps ≡ count
 
--- at most n steps at each claim word, fewer at that of the cell of c, and at most so many in all
+-- at most n steps at each claim word, fewer at that of the cell of c, and at most this many in all
 pub record FewerSteps (v w : View) (c : Req) (n all : ℕ) : Type 0 where
   pub steps : List Step
   pub is : w.steps ≡ steps ++ v.steps

@@ -22,7 +22,7 @@ pub struct Lists {
 }
 
 impl Lists {
-    /// Empty lists, for rings of which the widest has so many cells beside one, and which have so many in all.
+    /// Empty lists, for rings of which the widest has this many cells beside one, and which have this many in all.
     pub fn new(alloc: Global, others: usize, cells: usize) -> Result<Box<Lists>, AllocError>
         ensures { IfOk result (λ l. (K : List ℕ) → ((i : ℕ) → cells_in K i ≤ suc others) → total K ≡ cells → HasRooms K l.value) }
     {

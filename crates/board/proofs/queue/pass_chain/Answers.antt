@@ -83,7 +83,7 @@ returns-clause-seat c = let e = c.loop-k.invariant.0 in let a : Queue = c.loop-k
 pub returns-clause-kept : goal.returns-clause-kept
 returns-clause-kept c = ap (λ (z : Queue). record z { done = c.loop-k.queue.done }) c.loop-k.invariant.0
 
--- the chain goes on with the request that comes next
+-- the chain continues with the request that comes next
 pub returns-clause-open : goal.returns-clause-open
 returns-clause-open c = λ _. let e = c.loop-k.invariant.0 in let a : Queue = c.loop-k.queue in let w : Walking c.args.seat.now c.loop-k.seat a c.loop-k.k = subst (λ (z : Queue). Walking c.args.seat.now c.loop-k.seat z c.loop-k.k) (sym e) c.loop-k.invariant.1 in let h = c.look_at.ensures in let t : TableSeat = c.look_at.new.seat in let x = walk_looked c.args.seat.now c.loop-k.seat t a c.loop-k.k w h.seat 1 (omega arith) h.looks in let at : c.loop-k.k ≡ a.next = (let l = w.high in let f = c.loop-k-test.false in omega arith) in
     subst (λ (z : Queue). (a.done ≡ z.done) × ((n : ℕ) × (n + z.done ≤ z.next + 1) × Watched n c.args.seat.now.me.0 t.me.0) × ¬ IsChainDone (events_of t.me.0.seen) (nth z.ring z.done)) e

@@ -1,4 +1,4 @@
-use Rattle.std.proofs.Common.{All, Some}
+use Rattle.std.proofs.Common.{Some}
 use Rattle.std.proofs.lemmas.List.Elements.{All-pop}
 use Rattle.work.specs.{IsOf, Pass}
 use Rattle.loads.proofs.board_path.BoardPath.new.Goals as goal
