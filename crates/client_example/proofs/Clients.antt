@@ -1,5 +1,5 @@
 -- Clients of one board, after their calls.
-use Rattle.std.proofs.Common.{List, ap, arith, drop, get_or, length, map, suc, zero, ℕ, [], ◌+◌, ◌<◌, ◌∙◌, ◌∷◌, ◌≡◌}
+use Rattle.std.proofs.Common.{List, ap, arith, drop, get_or, length, map, suc, zero, [], ◌∙◌, ◌∷◌, ◌≡◌}
 use Rattle.runtime.specs.{AreClients, ClientFacts}
 
 pub still_clients : (b : _) (xs ys : List ClientFacts) → map (λ (c : ClientFacts). c.board) ys ≡ map (λ (c : ClientFacts). c.board) xs → AreClients b xs → AreClients b ys
