@@ -1,4 +1,4 @@
-//! The loads that are measured, unit by unit: this many units are kept in flight.
+//! The loads that are measured, unit by unit: a given number of units is kept in flight.
 use crate::flow::{are_bytes, buffer_of};
 use crate::load::{Batch, Fault, Load};
 use crate::replies::LATE;

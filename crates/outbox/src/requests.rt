@@ -1,4 +1,4 @@
-//! A queue of requests with so many places, whose room is made once.
+//! A bounded queue of requests. To put one in takes no memory: its place was made before.
 ghost use Rattle.std.specs.Prelude.{◌≡◌, ◌+◌, ◌<◌, ◌≤◌, ◌==◌, ◌∷◌, ◌++◌, [], length, false, IfOk, OnErr, IfSome, MatchOption, slice_get};
 ghost use Rattle.outbox.specs.Outbox.{no_requests, with_request};
 
@@ -37,7 +37,7 @@ impl RequestQueue {
         Ok(RequestQueue::with_places(alloc, places as usize)?)
     }
 
-    /// An empty queue with so many places.
+    /// An empty queue with this many places.
     pub fn with_places(alloc: Global, places: usize) -> Result<RequestQueue, AllocError>
         ensures { IfOk result (λ q. q ≡ no_requests places) }
     {
@@ -45,7 +45,7 @@ impl RequestQueue {
         Ok(RequestQueue { places, items })
     }
 
-    /// Makes places for so many requests more, where there are too few. Where memory is refused, nothing changes.
+    /// Makes places for this many more requests, where there are too few. Where memory is refused, nothing changes.
     pub fn make_places(&mut self, more: usize) -> Result<(), AllocError>
         ensures same { self.new.items ≡ self.old.items }
         ensures places { IfOk result (λ _. length self.new.items + more ≤ self.new.places) }

@@ -288,8 +288,9 @@ fn start_threads<
 }
 
 /// Starts a runtime: a board of this shape, its poller and its workers, each in a thread of its own, and gives it with a client for each
-/// ring, in order. An only worker has no thread: that of the poller makes its turns between its own. After `idle` idle turns in a row, 0 counting as 1, the poller sleeps until a batch is submitted, while its clock asks
-/// for nothing (IORING_SETUP_SQPOLL of io_uring_setup(2), with turns in the place of `sq_thread_idle` milliseconds).
+/// ring, in order. An only worker has no thread: that of the poller makes its turns between its own. After `idle` idle turns in a row, 0
+/// counting as 1, the poller sleeps until a batch is submitted, while its clock asks for nothing (IORING_SETUP_SQPOLL of
+/// io_uring_setup(2), with turns in the place of `sq_thread_idle` milliseconds).
 ///
 /// The clock is one that may stand so where nothing has happened yet. `join_at_rest` gives it back.
 ///
