@@ -1,5 +1,5 @@
 -- The threads of a runtime, and what they bring back.
-use Rattle.std.specs.Prelude.{◌≡◌, ℕ, ◌+◌, ◌==◌, ◌<◌, ◌≤◌, cond, Option, Some, None, List, [], ◌++◌, ◌∷◌, All, length, map, sum_by, vec_capacity}
+use Rattle.std.specs.Prelude.{◌≡◌, ℕ, ◌+◌, ◌-◌, ◌<◌, ◌≤◌, cond, Option, Some, None, List, [], ◌++◌, ◌∷◌, All, length, map, nat_lt, sum_by, vec_capacity}
 use Rattle.history.specs.declared.event.Event.{Event}
 use Rattle.history.specs.declared.req.Req.{Req}
 use Rattle.std.specs.Arc.{arc_value}
@@ -30,9 +30,13 @@ abbrev pub IsPollThread : {C : Type 0} → (C → List Event → Type 0) → Sha
 IsPollThread follows s (Runs thread) = arc_value thread.promise.0.value ≡ s
 IsPollThread follows s (Ended side) = IsPollSide follows s side
 
--- how many threads serve this many workers: an only worker is served by the poller's
+-- how many of this many workers the poller's thread serves: one of one or two
+abbrev pub served_of : ℕ → ℕ
+served_of n = cond (nat_lt 2 n) 0 1
+
+-- how many threads this many workers and the poller have
 abbrev pub threads_for : ℕ → ℕ
-threads_for n = cond (n == 1) 1 (n + 1)
+threads_for n = n - served_of n + 1
 
 -- whether it is 1 worker that the poller's thread serves itself, or none
 abbrev pub own_in : Option WorkSide → ℕ

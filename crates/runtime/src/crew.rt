@@ -1,11 +1,12 @@
-//! The start of the workers: each in a thread of its own, an only one in that of the poller. Where something is refused, what was made
-//! by then is dropped by a call.
+//! The start of the workers: each in a thread of its own, but of one or two the first in that of the poller. Where something is refused,
+//! what was made by then is dropped by a call.
 ghost use Rattle.std.specs.Prelude.{◌≡◌, ◌≢◌, ◌+◌, ◌≤◌, [], All, length, sum_by, vec_capacity, IfOk, IfErr};
 ghost use Rattle.std.specs.Arc.{arc_value};
 ghost use Rattle.work.specs.Board.{IsOf};
 ghost use Rattle.ready.specs.Ready.{IsQueuePass};
 ghost use Rattle.board.specs.ShapeLimits.{widest};
 ghost use Rattle.runtime.specs.{AreWorking, own_in, own_share, shares_of, threads_for, IsServing, IsWorkSide, MayOwn, HavePairs};
+ghost use Rattle.runtime.specs.WorkTurns.{most_kept};
 ghost use Rattle.runtime.specs.declared.error.StartError.TheVariants.{BadShape};
 
 use crate::error::{Memory, StartError};
@@ -27,6 +28,10 @@ use std::thread::Threads;
 /// How many answered requests a worker keeps at most when it begins another one.
 /// Under load it then takes a lock once for 16 requests. With 64 a client that has 64 in flight mostly waits for all of them at once.
 const KEPT: u32 = 15;
+
+/// How many workers there are at most where the poller's thread serves one of them. A request then costs one change of threads less. With
+/// more of them it would keep requests waiting that the others could run.
+const SERVED: usize = 2;
 
 /// The passes of the workers, of the board, of the ready queue and of the event count of the workers, by which each also calls the others.
 #[derive(Drop)]
@@ -91,6 +96,35 @@ fn start_worker<
     }
 }
 
+/// The desk of a worker. Beside others it wakes them, and counts for them what it wakes.
+fn desk_of(
+    alloc: Global,
+    shared: &Arc<Shared>,
+    ready: ReadyPass,
+    caller: Caller,
+    is_alone: bool,
+) -> Result<WorkDesk, Memory>
+    ensures { IfOk result (λ d. (d.ready ≡ ready) × (d.kept ≡ []) × (d.places ≡ most_kept (arc_value shared.now).board.layout.cells)) }
+{
+    let others = if is_alone {
+        drop(caller);
+        None
+    } else {
+        let Ok(shared) = Arc::try_clone(shared) else {
+            drop((ready, caller));
+            return Err(Memory);
+        };
+        Some(Others { caller, shared })
+    };
+    match WorkDesk::beside(alloc, &shared.board, ready, others) {
+        Ok(desk) => Ok(desk),
+        Err(refused) => {
+            drop(refused);
+            Err(Memory)
+        }
+    }
+}
+
 /// Starts the thread of a worker beside others: it wakes them, and counts for them what it wakes.
 fn start_beside<
     R: Threads + Wait + Copy + Send + 'static,
@@ -108,18 +142,11 @@ fn start_beside<
     ensures thread { IfOk result (λ t. (arc_value t.handle.promise.0.value ≡ arc_value stage.now.shared) × (t.handle.promise.1.value.share ≡ ready.share)) }
     ensures refused { IfErr result (λ e. e ≢ BadShape) }
 {
-    let Ok(shared) = Arc::try_clone(&stage.shared) else {
-        drop((worker, ready, listener, caller));
+    let Ok(desk) = desk_of(alloc, &stage.shared, ready, caller, false) else {
+        drop((worker, listener));
         return Err(StartError::Memory);
     };
-    let others = Others { caller, shared };
-    match WorkDesk::beside(alloc, &stage.shared.board, ready, Some(others)) {
-        Ok(desk) => start_worker(alloc, stage, worker, desk, listener),
-        Err(refused) => {
-            drop((refused, worker, listener));
-            Err(StartError::Memory)
-        }
-    }
+    start_worker(alloc, stage, worker, desk, listener)
 }
 
 /// Starts the threads of the workers, with a pass of the ready queue for each. There is room for their handles.
@@ -168,53 +195,64 @@ pub(crate) fn start_workers<
 /// A worker that the poller's thread serves, with a desk and an outbox.
 fn own_worker(
     alloc: Global,
-    shared: &Shared,
+    shared: &Arc<Shared>,
     worker: Worker,
     ready: ReadyPass,
+    caller: Caller,
+    is_alone: bool,
 ) -> Result<WorkSide, Memory>
-    requires worker { IsOf shared.now.board worker }
-    requires ready { IsQueuePass shared.now.queue ready }
-    ensures own { IfOk result (λ o. IsWorkSide shared.now o) }
+    requires worker { IsOf (arc_value shared.now).board worker }
+    requires ready { IsQueuePass (arc_value shared.now).queue ready }
+    ensures own { IfOk result (λ o. IsWorkSide (arc_value shared.now) o) }
     ensures share { IfOk result (λ o. o.desk.ready.share ≡ ready.share) }
 {
-    let outbox = outbox_of(alloc, shared)?;
-    match WorkDesk::new(alloc, &shared.board, ready) {
+    let Ok(outbox) = outbox_of(alloc, shared) else {
+        drop((worker, ready, caller));
+        return Err(Memory);
+    };
+    match desk_of(alloc, shared, ready, caller, is_alone) {
         Ok(desk) => Ok(WorkSide {
             desk,
             worker,
             outbox,
         }),
-        Err(refused) => {
-            drop((refused, worker, outbox));
-            Err(Memory)
+        Err(error) => {
+            drop((worker, outbox));
+            Err(error)
         }
     }
 }
 
-/// The worker that the poller's thread serves itself, where it is the only one. It has no thread then.
+/// The worker that the poller's thread serves itself: the last of these, where they are few. It has no thread then.
 pub(crate) fn own_of(
     alloc: Global,
-    shared: &Shared,
+    shared: &Arc<Shared>,
     parts: &mut WorkerParts,
 ) -> Result<Option<WorkSide>, Memory>
-    requires workers { All (λ p. IsOf shared.now.board p) parts.old.workers.items }
-    requires passes { All (λ p. IsQueuePass shared.now.queue p) parts.old.passes.items }
+    requires workers { All (λ p. IsOf (arc_value shared.now).board p) parts.old.workers.items }
+    requires passes { All (λ p. IsQueuePass (arc_value shared.now).queue p) parts.old.passes.items }
     requires count { HavePairs parts.old }
-    ensures own { IfOk result (λ o. MayOwn shared.now o × (own_in o + length parts.new.workers.items ≡ length parts.old.workers.items)) }
+    ensures own { IfOk result (λ o. MayOwn (arc_value shared.now) o × (own_in o + length parts.new.workers.items ≡ length parts.old.workers.items)) }
     ensures shares { IfOk result (λ o. own_share o + sum_by (λ p. p.share) parts.new.passes.items ≡ sum_by (λ p. p.share) parts.old.passes.items) }
-    ensures workers { All (λ p. IsOf shared.now.board p) parts.new.workers.items }
-    ensures passes { All (λ p. IsQueuePass shared.now.queue p) parts.new.passes.items }
+    ensures workers { All (λ p. IsOf (arc_value shared.now).board p) parts.new.workers.items }
+    ensures passes { All (λ p. IsQueuePass (arc_value shared.now).queue p) parts.new.passes.items }
     ensures count { HavePairs parts.new }
     ensures threads { IfOk result (λ _. length parts.new.workers.items + 1 ≡ threads_for (length parts.old.workers.items)) }
 {
-    if parts.workers.len() != 1 {
+    let count = parts.workers.len();
+    if SERVED < count {
         return Ok(None);
     }
-    let (Some(worker), Some(ready)) = (parts.workers.pop(), parts.passes.pop()) else {
+    let Some(worker) = parts.workers.pop() else {
+        return Ok(None);
+    };
+    let Some(ready) = parts.passes.pop() else {
         unreachable!()
     };
-    parts.listeners.pop();
-    parts.callers.pop();
-    let own = own_worker(alloc, shared, worker, ready)?;
+    let (Some(listener), Some(caller)) = (parts.listeners.pop(), parts.callers.pop()) else {
+        unreachable!()
+    };
+    drop(listener);
+    let own = own_worker(alloc, shared, worker, ready, caller, count == 1)?;
     Ok(Some(own))
 }

@@ -72,7 +72,7 @@ fn part<C: Clock>(shared: &Shared, side: PollSide<C>, ended: &mut Vec<WorkSide>)
     } = side;
     match own {
         Some(own) => {
-            ended.push_reserved(own);
+            ended.push_reserved(own.alone());
             PollSide {
                 desk,
                 clock,

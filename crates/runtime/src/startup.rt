@@ -266,12 +266,12 @@ fn start_threads<
         drop((shared, poller, clients, workers, turnstile, pace));
         return Err(StartError::Memory);
     };
-    let Ok(own) = own_of(alloc, &shared, &mut workers) else {
-        drop((shared, poller, clients, workers, turnstile, pace, rooms));
+    let Ok(stage) = stage_of(rt, alloc, shared, turnstile) else {
+        drop((poller, clients, workers, pace, rooms));
         return Err(StartError::Memory);
     };
-    let Ok(stage) = stage_of(rt, alloc, shared, turnstile) else {
-        drop((poller, clients, workers, pace, rooms, own));
+    let Ok(own) = own_of(alloc, &stage.shared, &mut workers) else {
+        drop((stage, poller, clients, workers, pace, rooms));
         return Err(StartError::Memory);
     };
     let Ok(clients) = clients_of(alloc, &stage.shared, clients) else {
@@ -288,8 +288,8 @@ fn start_threads<
 }
 
 /// Starts a runtime: a board of this shape, its poller and its workers, each in a thread of its own, and gives it with a client for each
-/// ring, in order. An only worker has no thread: that of the poller makes its turns between its own. After `idle` idle turns in a row, 0
-/// counting as 1, the poller sleeps until a batch is submitted, while its clock asks for nothing (IORING_SETUP_SQPOLL of
+/// ring, in order. Of one or two workers one has no thread: that of the poller makes its turns between its own. After `idle` idle turns in
+/// a row, 0 counting as 1, the poller sleeps until a batch is submitted, while its clock asks for nothing (IORING_SETUP_SQPOLL of
 /// io_uring_setup(2), with turns in the place of `sq_thread_idle` milliseconds).
 ///
 /// The clock is one that may stand so where nothing has happened yet. `join_at_rest` gives it back.

@@ -148,7 +148,7 @@ pub(crate) struct WorkSide {
 }
 
 /// What the poller's thread has: its desk, its clock, its outbox, who wakes the workers, and the worker that it serves itself where
-/// that is the only one.
+/// they are few.
 #[derive(Drop)]
 pub(crate) struct PollSide<C> {
     pub desk: PollDesk,
@@ -199,6 +199,23 @@ impl WorkSide {
             outbox,
         };
         (own, last)
+    }
+
+    /// The same, which wakes no others any more, and shares nothing with them.
+    pub(crate) fn alone(self) -> WorkSide
+        ensures { result ≡ self }
+    {
+        let WorkSide {
+            mut desk,
+            worker,
+            outbox,
+        } = self;
+        desk.part();
+        WorkSide {
+            desk,
+            worker,
+            outbox,
+        }
     }
 
     /// The passes, once it is served no more.

@@ -184,7 +184,7 @@ fn waits_often<R: Wait>(pair: &mut Pair, rt: &R, alloc: Global) -> Result<bool, 
 /// A put between a worker's last look and its sleep, a post between a client's, and a tail between the poller's: each wakes who sleeps.
 #[test]
 fn a_client_waits_ten_thousand_times(rt: HostRuntime) -> Result<(), Fail> {
-    let mut pair = Pair::new(rt, rt.alloc(), 2, 0, Open)?;
+    let mut pair = Pair::new(rt, rt.alloc(), 3, 0, Open)?;
     let went = waits_often(&mut pair, &rt, rt.alloc());
     assert!(rt; reports(pair, &rt, went, &[""])?);
     Ok(())
@@ -317,7 +317,7 @@ fn closes_all<R: Wait>(pair: &mut Pair, rt: &R, alloc: Global) -> Result<bool, F
 #[test]
 fn a_close_wakes_each_read_ten_thousand_times(rt: HostRuntime) -> Result<(), Fail> {
     for _runtime in 0..157u32 {
-        let mut pair = Pair::new(rt, rt.alloc(), 2, 0, Open)?;
+        let mut pair = Pair::new(rt, rt.alloc(), 3, 0, Open)?;
         let went = closes_all(&mut pair, &rt, rt.alloc());
         assert!(rt; reports(pair, &rt, went, &[""])?);
     }

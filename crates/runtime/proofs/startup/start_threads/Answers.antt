@@ -6,9 +6,6 @@ use Rattle.runtime.proofs.startup.start_threads.Goals as goal
 pub start_others-requires-clause-clients : goal.start_others-requires-clause-clients
 start_others-requires-clause-clients g c κs within = new_clients _ 0 _ c.in-Ok-clients_of.ensures.clients.0
 
-pub start_others-requires-clause-workers : goal.start_others-requires-clause-workers
-start_others-requires-clause-workers g c κs within =
-    subst (λ (t : Shared). All (λ p. IsOf t.board p) c.own_of.new.parts.workers.items) (sym c.in-Ok-stage_of.ensures) c.own_of.ensures.workers
-
 pub own_of-requires-clause-workers : goal.own_of-requires-clause-workers
-own_of-requires-clause-workers g c = workers_of _ _ c.requires.parts.board.workers_are.1
+own_of-requires-clause-workers g c =
+    subst (λ (t : Shared). All (λ p. IsOf t.board p) c.args.parts.workers.workers.items) (sym c.in-Ok-stage_of.ensures) (workers_of _ _ c.requires.parts.board.workers_are.1)
