@@ -1,4 +1,4 @@
-//! The start of the workers: each in a thread of its own, but of one or two the first in that of the poller. Where something is refused,
+//! The start of the workers: each in a thread of its own, but of one or two the last in that of the poller. Where something is refused,
 //! what was made by then is dropped by a call.
 ghost use Rattle.std.specs.Prelude.{◌≡◌, ◌≢◌, ◌+◌, ◌≤◌, [], All, length, sum_by, vec_capacity, IfOk, IfErr};
 ghost use Rattle.std.specs.Arc.{arc_value};
@@ -29,8 +29,8 @@ use std::thread::Threads;
 /// Under load it then takes a lock once for 16 requests. With 64 a client that has 64 in flight mostly waits for all of them at once.
 const KEPT: u32 = 15;
 
-/// How many workers there are at most where the poller's thread serves one of them. A request then costs one change of threads less. With
-/// more of them it would keep requests waiting that the others could run.
+/// How many workers there are at most where the poller's thread serves one of them. A request then changes threads less often. With more,
+/// requests that another worker could run would wait for the poller's turns.
 const SERVED: usize = 2;
 
 /// The passes of the workers, of the board, of the ready queue and of the event count of the workers, by which each also calls the others.
