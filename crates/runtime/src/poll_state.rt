@@ -49,18 +49,13 @@ impl PollState {
         self.moved = true;
     }
 
-    /// Limits how many of this many requests go to a worker together. Each worker gets its part, and two parts where there are enough.
-    /// So a few requests are shared out one by one. With one worker all that a span holds go together: no other worker could run them.
+    /// Limits how many of this many requests go to a worker together: each worker gets its part. So a few are shared out one by one, and
+    /// with one worker all that a span holds go together, since no other worker could run them.
     pub fn limit_for(&mut self, requests: u64)
         ensures { self.new ≡ self.old }
     {
-        let limit = if self.workers < 2 {
-            MOST
-        } else {
-            let parts = u64::from(self.workers) * 2;
-            (requests / parts).clamp(1, u64::from(MOST)) as u8
-        };
-        self.kept.limit_to(limit);
+        let part = requests / u64::from(self.workers.max(1));
+        self.kept.limit_to(part.clamp(1, u64::from(MOST)) as u8);
     }
 
     /// Hands a request over to the ready queue: with the next ones, up to the limit, or at the end of the turn at the latest.
