@@ -93,9 +93,9 @@ fn try_start<R: Threads + Wait + Copy + Send + 'static>(
     running
 }
 
-/// A runtime is started, and ended with a request that has no reply.
-pub(crate) fn try_threads<R: Threads + Wait + Copy + Send + 'static>(rt: &R, lines: &mut Lines) {
-    if let Some(shape) = shape_of(lines.alloc, 2, 4, 2) {
+/// A runtime with this many workers is started, and ended with a request that has no reply.
+fn try_workers<R: Threads + Wait + Copy + Send + 'static>(rt: &R, lines: &mut Lines, workers: u32) {
+    if let Some(shape) = shape_of(lines.alloc, 2, 4, workers) {
         let mut running = try_start(*rt, lines, &shape);
         if let Some(running) = &mut running {
             submit(lines.alloc, running);
@@ -103,4 +103,10 @@ pub(crate) fn try_threads<R: Threads + Wait + Copy + Send + 'static>(rt: &R, lin
         lines.try_call(rt, "join_all", &mut running);
         drop(running);
     }
+}
+
+/// The poller's thread serves one of two workers; each of three has a thread.
+pub(crate) fn try_threads<R: Threads + Wait + Copy + Send + 'static>(rt: &R, lines: &mut Lines) {
+    try_workers(rt, lines, 2);
+    try_workers(rt, lines, 3);
 }
