@@ -53,14 +53,21 @@ impl Ring {
         true
     }
 
+    /// It waits, and an earlier member of its chain ended the rest.
+    pub fn may_sever(&self, k: u64) -> bool
+        ensures { result ≡ may_sever self.now k }
+    {
+        match self.get(k) {
+            Some(request) => request.stage == RequestStage::Waits && self.is_severed(k as usize),
+            None => false,
+        }
+    }
+
     pub fn sever(&mut self, k: u64) -> bool
         ensures may { result ≡ may_sever self.old k }
         ensures after { self.new ≡ cond result (put_stage self.old k cancelled) self.old }
     {
-        let Some(request) = self.get(k) else {
-            return false;
-        };
-        if request.stage != RequestStage::Waits || !self.is_severed(k as usize) {
+        if !self.may_sever(k) {
             return false;
         }
         self.set_stage(k as usize, RequestStage::Replied(CANCELLED));
